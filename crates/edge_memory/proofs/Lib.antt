@@ -1,0 +1,5 @@
+mod Disks
+mod Logged
+mod Replays
+mod Slices
+mod Stories

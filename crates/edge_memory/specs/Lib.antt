@@ -1,0 +1,9 @@
+pub mod Call
+pub mod CallLog
+pub mod Calls
+pub mod Contents
+pub mod MemDisk
+pub mod MemSink
+pub mod MemSource
+pub mod Story
+pub mod StoryLaws

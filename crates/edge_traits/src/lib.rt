@@ -1,0 +1,14 @@
+// The outside as the registrar sees it: sources, sinks and disks, and the names of pledges and peers.
+// It promises the layers above what each call does to what an object tells, and that a call fails only where
+// its count of faults rose. The definitions are in specs/: Faults, Source, Sink and Disk.
+#![tactic(auto)]
+
+mod disk;
+mod names;
+mod sink;
+mod source;
+
+pub use disk::Disk;
+pub use names::{Area, Failed, Peer, PledgeId};
+pub use sink::Sink;
+pub use source::Source;

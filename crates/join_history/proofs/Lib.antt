@@ -1,0 +1,9 @@
+pub mod ListLemmas
+pub mod LegalLemmas
+pub mod TimeLemmas
+pub mod LastLemmas
+pub mod LeaseLemmas
+pub mod HolderLemmas
+pub mod DecisionLemmas
+pub mod DueLemmas
+pub mod SettingsLemmas

@@ -1,0 +1,9 @@
+pub mod Last
+pub mod Times
+pub mod Contexts
+pub mod Decisions
+pub mod Leases
+pub mod Legal
+pub mod Due
+pub mod Laws
+pub mod Opening

@@ -1,0 +1,5 @@
+mod LastScan
+mod Freshness
+mod AddressAnswers
+mod AddableLemmas
+pub mod StateLemmas

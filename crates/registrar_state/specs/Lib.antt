@@ -1,0 +1,4 @@
+pub mod Scans
+pub mod Last
+pub mod Room
+pub mod State

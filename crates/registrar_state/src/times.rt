@@ -1,0 +1,33 @@
+//! Times in a history, in whole seconds.
+ghost use Rattle.std.specs.Prelude.{◌≡◌};
+ghost use Rattle.join_history.specs.Times as spec;
+
+use journal_text::Entry;
+
+/// The latest time that is told: 2^40 - 1.
+pub const LATEST: u64 = 0xff_ffff_ffff;
+
+pub fn time_of(entry: &Entry) -> Option<u64>
+    ensures { result ≡ spec.time_of entry.now }
+{
+    match entry {
+        Entry::Settings { time, .. } | Entry::Grant { time, .. } | Entry::Refuse { time, .. } => {
+            Some(*time)
+        }
+        Entry::Enroll { .. } => None,
+    }
+}
+
+pub fn last_time(entries: &[Entry]) -> u64
+    ensures { result ≡ spec.last_time entries.now }
+{
+    entries
+        .iter()
+        .fold(0, |last, entry| time_of(entry).unwrap_or(last))
+}
+
+pub fn moment(entries: &[Entry], now: u64) -> u64
+    ensures { result ≡ spec.moment entries.now now }
+{
+    last_time(entries).max(now.min(LATEST))
+}

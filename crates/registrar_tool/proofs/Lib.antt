@@ -1,0 +1,6 @@
+mod ScriptLemmas
+mod WordsLemmas
+mod OpeningLemmas
+mod ReadyLemmas
+mod RunLemmas
+mod ListedLemmas

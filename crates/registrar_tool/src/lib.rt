@@ -1,0 +1,16 @@
+// The top calls: what the program's words ask for, over a source, a sink and a disk of any kind.
+// It promises the program that all that is written are the outcomes of one legal history, told over the script,
+// and that each status has its cause. Definitions are in specs/: Words, Script, Told and Run.
+#![tactic(auto)]
+
+mod decide;
+mod opening;
+mod script;
+mod status;
+#[cfg(test)]
+mod tests;
+mod top;
+mod words;
+
+pub use status::Status;
+pub use top::run;

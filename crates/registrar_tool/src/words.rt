@@ -1,0 +1,63 @@
+//! The words of the program.
+ghost use Rattle.std.specs.Prelude.{◌≡◌, ◌^◌, ◌<◌, ℕ, IfSome, IfNone, map, string_bytes};
+ghost use Rattle.journal_text.specs.declared.settings.Settings.{Settings};
+ghost use Rattle.registrar_tool.specs.Words.{IsNumber, AreSettings, IsDecide};
+
+use arrayvec::ArrayVec;
+use journal_text::Settings;
+use registrar_state::POOL_END;
+
+/// The most digits of a number among the words.
+const MOST_DIGITS: usize = 20;
+
+fn read_number(word: &str) -> Option<u16>
+    ensures found { IfSome result (IsNumber word.now) }
+    ensures none { IfNone result ((number : ℕ) → number < 2 ^ 16 → IsNumber word.now number → ⊥) }
+{
+    let digits = word.as_bytes();
+    if digits.is_empty() || digits.len() > MOST_DIGITS || digits[0] == b'+' {
+        return None;
+    }
+    word.parse::<u16>().ok()
+}
+
+/// The settings that three words give, where each is a number in its range.
+fn read_settings(first: &str, count: &str, hours: &str) -> Option<Settings>
+    ensures found { IfSome result (AreSettings first.now count.now hours.now) }
+    ensures none { IfNone result ((settings : Settings) → AreSettings first.now count.now hours.now settings → ⊥) }
+{
+    let Some(first) = read_number(first) else {
+        return None;
+    };
+    let Some(count) = read_number(count) else {
+        return None;
+    };
+    let Some(hours) = read_number(hours) else {
+        return None;
+    };
+    if first == 0 || count == 0 || hours == 0 || u32::from(first) + u32::from(count) > POOL_END {
+        return None;
+    }
+    Some(Settings {
+        first,
+        count,
+        hours,
+        rate: None,
+        jrc: None,
+        refused: ArrayVec::new(),
+    })
+}
+
+/// The settings that the words `decide first count hours` give; `None` for all other words.
+pub(crate) fn read_words(words: &[String]) -> Option<Settings>
+    ensures found { IfSome result (λ settings. IsDecide (map string_bytes words.now) settings) }
+    ensures none { IfNone result ((settings : Settings) → IsDecide (map string_bytes words.now) settings → ⊥) }
+{
+    let [command, first, count, hours] = words else {
+        return None;
+    };
+    if command.as_str() != "decide" {
+        return None;
+    }
+    read_settings(first.as_str(), count.as_str(), hours.as_str())
+}

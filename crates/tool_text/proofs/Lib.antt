@@ -1,0 +1,4 @@
+pub mod Splits
+pub mod Fields
+pub mod AskLemmas
+pub mod WritingLemmas

@@ -1,0 +1,4 @@
+pub mod Lines
+pub mod Line
+pub mod Outcome
+pub mod Writing
