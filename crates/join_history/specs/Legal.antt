@@ -11,12 +11,13 @@ use Rattle.join_history.specs.Contexts.{pledge_of, context_count, HasCheck}
 use Rattle.join_history.specs.Decisions.{IsFresh}
 use Rattle.join_history.specs.Leases.{current_settings, IsDueAddress, HasNoAddress}
 
--- a pool within 0x0001 to 0xFFFD, and a lease of at least an hour
+-- a pool within 0x0001 to 0xFFFD, and a lease of 1 to 65535 hours
 pub record IsInRange (settings : Settings) : Type 0 where
   pub first : 1 ≤ settings.first
   pub count : 1 ≤ settings.count
   pub last : settings.first + settings.count ≤ 65534
-  pub hours : 1 ≤ settings.hours
+  pub hours_at_least : 1 ≤ settings.hours
+  pub hours_at_most : settings.hours ≤ 65535
 
 -- the time isn't before the last one, and fits 40 bits
 pub record IsTimely (g : List Entry) (time : ℕ) : Type 0 where

@@ -1,5 +1,5 @@
 -- What a state stands for.
-use Rattle.std.specs.Prelude.{◌≡◌, ℕ, List, Some}
+use Rattle.std.specs.Prelude.{◌≡◌, ℕ, List, Some, vec_capacity}
 use Rattle.edge_traits.specs.declared.names.PledgeId.{PledgeId}
 use Rattle.journal_text.specs.declared.settings.Settings.{Settings}
 use Rattle.journal_text.specs.declared.entry.Entry.{Entry}
@@ -16,6 +16,10 @@ StandsFor state h = (state.entries.items ≡ h) × IsLegal h
 -- the room that is left
 unfoldable pub spare : RegState → Room
 spare state = state.room
+
+-- the memory that was reserved, in entries
+unfoldable pub reserved_of : RegState → ℕ
+reserved_of state = vec_capacity state.entries
 
 -- the entry may follow a history that the state stands for
 abbrev pub CanFollow : RegState → Entry → Type 0

@@ -36,7 +36,7 @@ impl RegState {
     ghost use Rattle.join_history.specs.Due.{IsWish, IsDue, IsAddable};
     ghost use Rattle.registrar_state.specs.Last.{IsLastAnswer};
     ghost use Rattle.registrar_state.specs.Room.{HasRoomFor, TakesRoom};
-    ghost use Rattle.registrar_state.specs.State.{StandsFor, spare, CanFollow, IsEnrolled, HasSettings};
+    ghost use Rattle.registrar_state.specs.State.{StandsFor, spare, reserved_of, CanFollow, IsEnrolled, HasSettings};
 
     /// The state of the empty history, with room for so many contexts and so many other entries.
     pub fn empty(alloc: Global, contexts: u32, entries: u32) -> Result<RegState, NoMemory>
@@ -64,6 +64,7 @@ impl RegState {
         requires room { HasRoomFor (spare self.old) entry.now }
         ensures stands { (h : List Entry) → StandsFor self.old h → StandsFor self.new (h ++ entry.now ∷ []) }
         ensures room { TakesRoom (spare self.old) (spare self.new) entry.now }
+        ensures memory { reserved_of self.new ≡ reserved_of self.old }
     {
         self.room.take(entry);
         self.entries.push_reserved(entry.clone().unwrap());

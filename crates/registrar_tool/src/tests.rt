@@ -18,19 +18,35 @@ fn words_of(alloc: Global, line: &str) -> Result<Vec<String>, AllocError> {
 }
 
 /// The status and the written bytes of a run.
-fn run_over(alloc: Global, words: &str, script: &[u8], failing: Failing<'_>) -> Result<(Status, Vec<u8>), Fail> {
+fn run_over(
+    alloc: Global,
+    words: &str,
+    script: &[u8],
+    failing: Failing<'_>,
+) -> Result<(Status, Vec<u8>), Fail> {
     let words = words_of(alloc, words)?;
     let mut inventory = MemSource::new(alloc, &[], &[])?;
     let mut source = MemSource::new(alloc, script, failing.0)?;
     let mut sink = MemSink::new(alloc, failing.1, 4096)?;
     let mut disk = MemDisk::new(alloc, &[], &[], &[], 0, 0)?;
-    let status = run(alloc, &words, &mut inventory, &mut source, &mut sink, &mut disk);
+    let status = run(
+        alloc,
+        &words,
+        &mut inventory,
+        &mut source,
+        &mut sink,
+        &mut disk,
+    );
     Ok((status, sink.written().to_vec(alloc)?))
 }
 
 /// Each run: its words, its script and what it writes.
 const RUNS: [(&str, &str, &str); 8] = [
-    ("decide 1 2 24", "ask 100 00000000000000a1 0\n", "grant 0001 86500\n"),
+    (
+        "decide 1 2 24",
+        "ask 100 00000000000000a1 0\n",
+        "grant 0001 86500\n",
+    ),
     ("decide 1 2 24", "", ""),
     // An address is held for 3600 seconds behind its lease's end.
     (
@@ -125,7 +141,12 @@ fn other_words_are_no_command(rt: HostRuntime) -> Result<(), Fail> {
         assert_eq!(rt; status, Status::Usage, "at {words}");
         assert_eq!(rt; written.len(), 0, "at {words}");
     }
-    let (status, _) = run_over(rt.alloc(), "decide 00000000000000000001 65533 65535", script, SOUND)?;
+    let (status, _) = run_over(
+        rt.alloc(),
+        "decide 00000000000000000001 65533 65535",
+        script,
+        SOUND,
+    )?;
     assert_eq!(rt; status, Status::Done);
     Ok(())
 }

@@ -50,8 +50,9 @@ pub fn run<S: Source, T: Source, K: Sink, D: Disk>(
     ensures read_cause { (f : ℕ) → result ≡ ReadFault f
         → Rose (T.fault_count script.old) f × (f ≡ T.fault_count script.new) }
 
-    // Where no line was done nothing was written.
-    ensures nothing { IsBeforeLines result → K.written out.new ≡ K.written out.old }
+    // Where no line was done the sink is as it was, and where the words are no command the script is too.
+    ensures nothing { IsBeforeLines result → out.new ≡ out.old }
+    ensures usage_reads { result ≡ Usage → script.new ≡ script.old }
 
     // The inventory and the disk stay as they were.
     ensures inventory { _inventory.new ≡ _inventory.old }
@@ -84,7 +85,7 @@ fn decide<T: Source, K: Sink>(
     ensures usage { result ≢ Usage }
     ensures read_cause { (f : ℕ) → result ≡ ReadFault f
         → Rose (T.fault_count script.old) f × (f ≡ T.fault_count script.new) }
-    ensures nothing { IsBeforeLines result → K.written out.new ≡ K.written out.old }
+    ensures nothing { IsBeforeLines result → out.new ≡ out.old }
 {
     match read_script(alloc, script) {
         Ok(bytes) => decide_script(alloc, settings, &bytes, out),
@@ -106,7 +107,7 @@ fn decide_script<K: Sink>(alloc: Global, settings: Settings, bytes: &[u8], out: 
         → Rose (K.fault_count out.old) f × (f ≡ K.fault_count out.new) }
     ensures usage { result ≢ Usage }
     ensures read { (f : ℕ) → result ≢ ReadFault f }
-    ensures nothing { IsBeforeLines result → K.written out.new ≡ K.written out.old }
+    ensures nothing { IsBeforeLines result → out.new ≡ out.old }
 {
     let Ok((lines, wrong)) = read_lines(alloc, bytes) else {
         return Status::NoMemory;

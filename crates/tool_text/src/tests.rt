@@ -1,4 +1,6 @@
 //! What single lines say, and what is printed for single outcomes, worked out by hand from the format.
+ghost use Rattle.std.specs.Prelude.{◌<◌, ◌^◌};
+
 use super::*;
 use arrayvec::ArrayVec;
 use edge_traits::{Failed, PledgeId, Sink};
@@ -12,6 +14,7 @@ struct Narrow {
     text: ArrayVec<u8, 40>,
     room: usize,
     faults: u64,
+    ghost fits: { faults < 2 ^ 64 },
 }
 
 impl Sink for Narrow {
@@ -20,6 +23,8 @@ impl Sink for Narrow {
     ghost written = { λ s. Some s.text.items };
 
     ghost fault_count = { λ s. s.faults };
+
+    ghost fault_count_fits = { λ s. s.fits };
 
     fn write(&mut self, bytes: &[u8]) -> Result<usize, Failed> {
         let Some(byte) = bytes.first() else {

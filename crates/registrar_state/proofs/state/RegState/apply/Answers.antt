@@ -1,7 +1,7 @@
 use Rattle.std.proofs.Common.{◌≡◌, ◌∙◌, ◌++◌, ◌∷◌, [], sym, subst, rules}
 use Rattle.join_history.specs.Legal.{MayFollow}
 use Rattle.join_history.proofs.LegalLemmas.{IsLegal-push}
-use Rattle.registrar_state.specs.State.{StandsFor, spare}
+use Rattle.registrar_state.specs.State.{StandsFor, spare, reserved_of}
 use Rattle.registrar_state.proofs.state.RegState.apply.Goals as goal
 
 pub take-requires : goal.take-requires
@@ -21,3 +21,7 @@ returns-clause-stands c = λ h stands.
 pub returns-clause-room : goal.returns-clause-room
 unfolding spare
 returns-clause-room c = c.take.ensures.taken
+
+pub returns-clause-memory : goal.returns-clause-memory
+unfolding reserved_of
+returns-clause-memory c = c.push_reserved.ensures.capacity
