@@ -1,0 +1,5 @@
+pub mod Heads
+pub mod Items
+pub mod Calls
+pub mod Skipping
+pub mod Spelled

@@ -1,0 +1,5 @@
+pub mod Head
+pub mod Item
+pub mod Input
+pub mod Reading
+pub mod Spelling
