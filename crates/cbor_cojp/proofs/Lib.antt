@@ -1,0 +1,10 @@
+pub mod Reading
+pub mod Values
+pub mod Joins
+pub mod Loops
+pub mod Keys
+pub mod Configs
+pub mod Writing
+pub mod JoinText
+pub mod ConfigText
+pub mod ConfigBack
