@@ -1,0 +1,10 @@
+pub mod Extended
+pub mod Options
+pub mod Header
+pub mod Body
+pub mod Message
+pub mod Reading
+pub mod OptionsLeft
+pub mod Whole
+pub mod Draft
+pub mod Laws
