@@ -70,6 +70,8 @@ impl Disk for NoDisk {
 
     ghost fault_count_fits = { λ disk. disk.fits };
 
+    ghost may_leave_seen = { λ _ _. tt };
+
     ghost counts_now = { λ _ _ _ _ may. may };
 
     ghost only_now = { λ _ _ left. left };
