@@ -2,7 +2,7 @@
 use Rattle.std.proofs.Common.{◌≡◌, ℕ, List, ◌∷◌, ◌++◌, Contains, Some, refl, subst}
 use Rattle.edge_traits.specs.declared.names.PledgeId.{PledgeId}
 use Rattle.journal_text.specs.declared.entry.Entry.{Entry}
-use Rattle.journal_text.specs.declared.entry.Entry.TheVariants.{Settings, Enroll, Grant, Refuse}
+use Rattle.journal_text.specs.declared.entry.Entry.TheVariants.{Enroll, Grant, Refuse}
 use Rattle.join_history.specs.Contexts.{pledge_of}
 use Rattle.join_history.specs.Decisions.{IsDecision, HasNumber}
 use Rattle.join_history.specs.Leases.{IsLive, IsDueAddress}
@@ -16,12 +16,11 @@ HasNumber-from_contains h e c n has decides = Any-from_contains (IsDecision c n)
 
 -- an entry that may follow decides no number that was decided
 decides_fresh : (h : List Entry) (e : Entry) (c n : ℕ) → MayFollow h e → IsDecision c n e → HasNumber h c n → ⊥
-decides_fresh h (Settings time settings) c n may decides has = decides
-decides_fresh h (Enroll context id check) c n may decides has = decides
 decides_fresh h (Grant time context number address until) c n may decides has =
     may.2.fresh.unused (rw (decides.0, decides.1) has)
 decides_fresh h (Refuse time context number why) c n may decides has =
     may.2.fresh.unused (rw (decides.0, decides.1) has)
+decides_fresh h _ c n may decides has = decides
 
 -- no two decisions of a legal history have one context and number
 pub one_decision : (before between after : List Entry) (e f : Entry) (c n : ℕ)

@@ -1,11 +1,11 @@
 -- Lemmas about what a request is due.
-use Rattle.std.proofs.Common.{◌≡◌, ℕ, ◌+◌, ◌*◌, ◌^◌, ◌<◌, ◌≤◌, List, Some, refl, sym, ap, ◌∙◌, subst, arith}
+use Rattle.std.proofs.Common.{◌≡◌, ℕ, ◌+◌, ◌^◌, ◌<◌, ◌≤◌, List, Some, refl, sym, ap, ◌∙◌, subst, arith}
 use Rattle.std.proofs.lemmas.Option.{same_Some}
 use Rattle.edge_traits.specs.declared.names.PledgeId.{PledgeId}
 use Rattle.journal_text.specs.declared.settings.Settings.{Settings}
 use Rattle.journal_text.specs.declared.refusal.Refusal.{Refusal}
 use Rattle.journal_text.specs.declared.entry.Entry.{Entry}
-use Rattle.journal_text.specs.declared.entry.Entry.TheVariants.{Settings as SettingsEntry, Enroll, Grant, Refuse}
+use Rattle.journal_text.specs.declared.entry.Entry.TheVariants.{Grant, Refuse}
 use Rattle.join_history.specs.declared.due.Due.{Due}
 use Rattle.join_history.specs.declared.due.Due.TheVariants.{Add, Again, Quiet}
 use Rattle.join_history.specs.declared.due.Quiet.TheVariants.{Taken, Old, Late}
@@ -14,7 +14,7 @@ use Rattle.join_history.specs.declared.due.Want.TheVariants as want
 use Rattle.join_history.specs.Times.{time_of, moment}
 use Rattle.join_history.specs.Contexts.{pledge_of}
 use Rattle.join_history.specs.Decisions.{IsDecision, HasNumber, IsFresh}
-use Rattle.join_history.specs.Leases.{current_settings, IsDueAddress, HasNoAddress}
+use Rattle.join_history.specs.Leases.{current_settings, lease_end, IsDueAddress, HasNoAddress}
 use Rattle.join_history.specs.Legal.{IsLegal, MayFollow, MayDecide, IsTrueReason}
 use Rattle.join_history.specs.Due.{IsRepeat, IsDueRefusal, IsDueEntry, IsWish, IsDue}
 use Rattle.join_history.proofs.LastLemmas.{IsLast-unique, IsLast-contains}
@@ -47,8 +47,6 @@ MayDecide-due h now c n p s legal enrolled current fits fresh = record {
 pub MayFollow-due : (h : List Entry) (now c n : ℕ) (wish : Want) (p : PledgeId) (s : Settings) (e : Entry)
     → IsLegal h → pledge_of h c ≡ Some p → current_settings h ≡ Some s → n < 2 ^ 40 → IsWish wish
     → IsDue h now c n wish (Add e) → MayFollow h e
-MayFollow-due h now c n wish p s (SettingsEntry time settings) legal enrolled current fits wishes due = absurd due.1
-MayFollow-due h now c n wish p s (Enroll context id check) legal enrolled current fits wishes due = absurd due.1
 MayFollow-due h now c n wish p s (Grant time context number address until) legal enrolled current fits wishes due =
     let d = due.1 in
     let is : Grant (moment h now) c n address until ≡ Grant time context number address until = cc in
@@ -60,6 +58,7 @@ MayFollow-due h now c n wish p s (Refuse time context number why) legal enrolled
     let may = MayDecide-due h now c n p s legal enrolled current fits due.0 in
     let reason = IsTrueReason-due h (moment h now) c wish why p enrolled wishes d.3 in
     subst (MayFollow h) is (p, s, may, reason)
+MayFollow-due h now c n wish p s _ legal enrolled current fits wishes due = absurd due.1
 
 -- a context's last decision was made at one time
 IsRepeat-unique : (h : List Entry) (c n s t : ℕ) → IsRepeat h c n s → IsRepeat h c n t → s ≡ t
@@ -89,25 +88,22 @@ grant_or_refusal h t c a want.Join why p is enrolled address due =
 -- a fresh request is due one entry
 IsDueEntry-unique : (h : List Entry) (t c n : ℕ) (wish : Want) (d e : Entry) → IsDueEntry h t c n wish d
     → IsDueEntry h t c n wish e → d ≡ e
-IsDueEntry-unique h t c n wish (SettingsEntry time settings) e due due' = absurd due
-IsDueEntry-unique h t c n wish (Enroll context id check) e due due' = absurd due
-IsDueEntry-unique h t c n wish (Grant time context number a until) (SettingsEntry time' settings) due due' = absurd due'
-IsDueEntry-unique h t c n wish (Grant time context number a until) (Enroll context' id check) due due' = absurd due'
 IsDueEntry-unique h t c n wish (Grant time context number a until) (Refuse time' context' number' why) due due' =
     absurd (grant_or_refusal h t c a wish why due.4 due.0 due.6 due.8 due'.3)
 IsDueEntry-unique h t c n wish (Grant time context number a until) (Grant time' context' number' a' until') due due' =
     let pledge = one_pledge h c due.4 due'.4 due.6 due'.6 in
     let settings = same_Some due.5 due'.5 (sym due.7 ∙ due'.7) in
     let address = IsDueAddress-unique h t due'.4 a a' (subst (λ p. IsDueAddress h t p a) pledge due.8) due'.8 in
-    let end = due.9 ∙ ap (λ (s : Settings). t + 3600 * s.hours) settings ∙ sym due'.9 in
+    let end = due.9 ∙ ap (λ (s : Settings). lease_end t s.hours) settings ∙ sym due'.9 in
     cc
-IsDueEntry-unique h t c n wish (Refuse time context number why) (SettingsEntry time' settings) due due' = absurd due'
-IsDueEntry-unique h t c n wish (Refuse time context number why) (Enroll context' id check) due due' = absurd due'
 IsDueEntry-unique h t c n wish (Refuse time context number why) (Grant time' context' number' a until) due due' =
     absurd (grant_or_refusal h t c a wish why due'.4 due'.0 due'.6 due'.8 due.3)
 IsDueEntry-unique h t c n wish (Refuse time context number why) (Refuse time' context' number' why') due due' =
     let reason = IsDueRefusal-unique h t c wish why why' due.3 due'.3 in
     cc
+IsDueEntry-unique h t c n wish (Grant time context number a until) _ due due' = absurd due'
+IsDueEntry-unique h t c n wish (Refuse time context number why) _ due due' = absurd due'
+IsDueEntry-unique h t c n wish _ e due due' = absurd due
 
 -- no repeat is both within its 600 seconds and past them
 again_or_late : (h : List Entry) (c n s t moment : ℕ) → IsRepeat h c n s → IsRepeat h c n t → moment ≤ s + 600

@@ -8,7 +8,7 @@ use Rattle.std.proofs.lemmas.Slice.Eq.{bytes_eq-Decides}
 use Rattle.std.proofs.lemmas.List.Elements.{Contains-push_cases}
 use Rattle.edge_traits.specs.declared.names.PledgeId.{PledgeId}
 use Rattle.journal_text.specs.declared.entry.Entry.{Entry}
-use Rattle.journal_text.specs.declared.entry.Entry.TheVariants.{Settings, Enroll, Grant, Refuse}
+use Rattle.journal_text.specs.declared.entry.Entry.TheVariants.{Enroll, Grant}
 use Rattle.join_history.specs.Contexts.{pledge_of}
 use Rattle.join_history.specs.Leases.{Holds, IsLive, IsGrantTo, IsDueAddress, IsLeastFree, HasNoAddress}
 use Rattle.join_history.specs.Legal.{IsLegal, MayFollow}
@@ -33,9 +33,7 @@ pledge_of-append (Enroll context id check ∷ h) g c p is =
       | true ↦ λ same. same
       | false ↦ λ later. pledge_of-append h g c p later
     ]) is
-pledge_of-append (Settings time settings ∷ h) g c p is = pledge_of-append h g c p is
-pledge_of-append (Grant time context number address until ∷ h) g c p is = pledge_of-append h g c p is
-pledge_of-append (Refuse time context number why ∷ h) g c p is = pledge_of-append h g c p is
+pledge_of-append (_ ∷ h) g c p is = pledge_of-append h g c p is
 
 -- a context has one pledge
 pub one_pledge : (h : List Entry) (c : ℕ) (p q : PledgeId) → pledge_of h c ≡ Some p → pledge_of h c ≡ Some q → p ≡ q

@@ -17,6 +17,7 @@ last_time-rises h (Settings time settings) may = rw last_time-push may.0.not_bef
 last_time-rises h (Enroll context id check) may = rw last_time-push (omega arith)
 last_time-rises h (Grant time context number address until) may = rw last_time-push may.2.timely.not_before
 last_time-rises h (Refuse time context number why) may = rw last_time-push may.2.timely.not_before
+last_time-rises h _ may = absurd may
 
 -- an entry that may follow fits the clock's 40 bits
 last_time-push-lt : (h : List Entry) (e : Entry) → MayFollow h e → last_time h < 2 ^ 40
@@ -25,6 +26,7 @@ last_time-push-lt h (Settings time settings) may fits = rw last_time-push may.0.
 last_time-push-lt h (Enroll context id check) may fits = rw last_time-push fits
 last_time-push-lt h (Grant time context number address until) may fits = rw last_time-push may.2.timely.fits
 last_time-push-lt h (Refuse time context number why) may fits = rw last_time-push may.2.timely.fits
+last_time-push-lt h _ may fits = absurd may
 
 -- the last time of a legal history fits 40 bits
 pub last_time-lt : (h : List Entry) → IsLegal h → last_time h < 2 ^ 40

@@ -1,15 +1,14 @@
 -- The numbers of a context, and which numbers are fresh (RFC 8613, 7.4, told of the whole list).
 use Rattle.std.specs.Prelude.{◌≡◌, ℕ, ◌+◌, ◌<◌, List, Any}
 use Rattle.journal_text.specs.declared.entry.Entry.{Entry}
-use Rattle.journal_text.specs.declared.entry.Entry.TheVariants.{Settings, Enroll, Grant, Refuse}
+use Rattle.journal_text.specs.declared.entry.Entry.TheVariants.{Grant, Refuse}
 use Rattle.join_history.specs.Last.{IsLast}
 
 -- the entry decides the request of this context and number
 abbrev pub IsDecision : ℕ → ℕ → Entry → Type 0
 IsDecision c n (Grant time context number address until) = (context ≡ c) × (number ≡ n)
 IsDecision c n (Refuse time context number why) = (context ≡ c) × (number ≡ n)
-IsDecision c n (Settings time settings) = ⊥
-IsDecision c n (Enroll context id check) = ⊥
+IsDecision c n _ = ⊥
 
 -- the number is one of those that were decided for the context
 abbrev pub HasNumber : List Entry → ℕ → ℕ → Type 0

@@ -1,11 +1,11 @@
 -- What a request is due, judged at the moment of its decision.
-use Rattle.std.specs.Prelude.{◌≡◌, ℕ, ◌+◌, ◌*◌, ◌<◌, ◌≤◌, ⊤, List, Some}
+use Rattle.std.specs.Prelude.{◌≡◌, ℕ, ◌+◌, ◌<◌, ◌≤◌, ⊤, List, Some}
 use Rattle.edge_traits.specs.declared.names.PledgeId.{PledgeId}
 use Rattle.journal_text.specs.declared.settings.Settings.{Settings}
 use Rattle.journal_text.specs.declared.refusal.Refusal.{Refusal}
 use Rattle.journal_text.specs.declared.refusal.Refusal.TheVariants.{NoAddress}
 use Rattle.journal_text.specs.declared.entry.Entry.{Entry}
-use Rattle.journal_text.specs.declared.entry.Entry.TheVariants.{Settings as SettingsEntry, Enroll, Grant, Refuse}
+use Rattle.journal_text.specs.declared.entry.Entry.TheVariants.{Grant, Refuse}
 use Rattle.join_history.specs.declared.due.Due.{Due}
 use Rattle.join_history.specs.declared.due.Due.TheVariants.{Add, Again, Quiet}
 use Rattle.join_history.specs.declared.due.Quiet.TheVariants.{Taken, Old, Late}
@@ -14,8 +14,9 @@ use Rattle.join_history.specs.declared.due.Want.TheVariants as want
 use Rattle.join_history.specs.Times.{time_of, moment}
 use Rattle.join_history.specs.Contexts.{pledge_of}
 use Rattle.join_history.specs.Decisions.{IsDecision, IsLastDecision, HasNumber, IsFresh}
-use Rattle.join_history.specs.Leases.{current_settings, IsDueAddress, HasNoAddress}
-use Rattle.join_history.specs.Legal.{IsReason, MayFollow}
+use Rattle.join_history.specs.Leases.{current_settings, lease_end, IsDueAddress, HasNoAddress}
+use Rattle.journal_text.specs.Codes.{IsReason}
+use Rattle.join_history.specs.Legal.{MayFollow}
 
 -- The last decision of the context has this number, and was made at this time.
 abbrev pub IsRepeat : List Entry → ℕ → ℕ → ℕ → Type 0
@@ -40,11 +41,10 @@ abbrev pub IsDueEntry : List Entry → ℕ → ℕ → ℕ → Want → Entry �
 IsDueEntry h t c n wish (Grant time context number address until) =
     (wish ≡ want.Join) × (time ≡ t) × (context ≡ c) × (number ≡ n)
     × (p : PledgeId) × (s : Settings) × (pledge_of h c ≡ Some p) × (current_settings h ≡ Some s)
-    × IsDueAddress h t p address × (until ≡ t + 3600 * s.hours)
+    × IsDueAddress h t p address × (until ≡ lease_end t s.hours)
 IsDueEntry h t c n wish (Refuse time context number why) =
     (time ≡ t) × (context ≡ c) × (number ≡ n) × IsDueRefusal h t c wish why
-IsDueEntry h t c n wish (SettingsEntry time settings) = ⊥
-IsDueEntry h t c n wish (Enroll context id check) = ⊥
+IsDueEntry h t c n wish _ = ⊥
 
 -- What the request of this context and number is due when the clock says `now`. A repeat of the last decision comes
 -- first, then a number 32 or more below the greatest, then one that was decided; what is left is fresh.

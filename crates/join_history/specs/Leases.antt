@@ -1,22 +1,24 @@
 -- Which pledge holds which short address. An address stays held for a grace of 3600 seconds behind its lease's end.
-use Rattle.std.specs.Prelude.{◌≡◌, ◌≢◌, ℕ, ◌+◌, ◌<◌, ◌≤◌, ◌⊎◌, List, Option, Some, None, Contains, fold}
+use Rattle.std.specs.Prelude.{◌≡◌, ◌≢◌, ◌==◌, if◌then◌else◌, ℕ, ◌+◌, ◌-◌, ◌*◌, ◌^◌, ◌<◌, ◌≤◌, ◌⊎◌, List, Option, Some, None, Contains, fold}
 use Rattle.edge_traits.specs.declared.names.PledgeId.{PledgeId}
 use Rattle.journal_text.specs.declared.settings.Settings.{Settings}
 use Rattle.journal_text.specs.declared.entry.Entry.{Entry}
-use Rattle.journal_text.specs.declared.entry.Entry.TheVariants.{Settings as SettingsEntry, Enroll, Grant, Refuse}
+use Rattle.journal_text.specs.declared.entry.Entry.TheVariants.{Settings as SettingsEntry, Grant}
 use Rattle.join_history.specs.Last.{IsLast}
 use Rattle.join_history.specs.Contexts.{pledge_of}
 
 -- the settings of an entry, or else those before it
 abbrev pub settings_after : Option Settings → Entry → Option Settings
 settings_after before (SettingsEntry time settings) = Some settings
-settings_after before (Enroll context id check) = before
-settings_after before (Grant time context number address until) = before
-settings_after before (Refuse time context number why) = before
+settings_after before _ = before
 
 -- the settings of the last Settings entry
 abbrev pub current_settings : List Entry → Option Settings
 current_settings h = fold settings_after None h
+
+-- The second at which a lease ends that begins at this time and has so many hours. With 0 hours it has no end.
+abbrev pub lease_end : ℕ → ℕ → ℕ
+lease_end time hours = if hours == 0 then 2 ^ 64 - 1 else time + 3600 * hours
 
 -- At t the pledge holds the address: some Grant of it to the pledge ends less than 3600 seconds before t, or later.
 abbrev pub Holds : List Entry → ℕ → ℕ → PledgeId → Type 0
@@ -26,9 +28,7 @@ Holds h t a p = (time context number until : ℕ) × Contains h (Grant time cont
 -- the entry is a Grant to the pledge
 abbrev pub IsGrantTo : List Entry → PledgeId → Entry → Type 0
 IsGrantTo h p (Grant time context number address until) = pledge_of h context ≡ Some p
-IsGrantTo h p (SettingsEntry time settings) = ⊥
-IsGrantTo h p (Enroll context id check) = ⊥
-IsGrantTo h p (Refuse time context number why) = ⊥
+IsGrantTo h p _ = ⊥
 
 -- At t the pledge's lease is live: its last Grant is of this address and ends behind t.
 abbrev pub IsLive : List Entry → ℕ → PledgeId → ℕ → Type 0

@@ -1,39 +1,28 @@
 -- Legal histories: each entry may follow the entries before it.
-use Rattle.std.specs.Prelude.{◌≡◌, ◌+◌, ◌*◌, ◌^◌, ◌<◌, ◌≤◌, ◌⊎◌, ⊤, ℕ, List, ◌∷◌, ◌++◌, Some}
+use Rattle.std.specs.Prelude.{◌≡◌, ◌+◌, ◌^◌, ◌<◌, ◌≤◌, ℕ, List, ◌∷◌, ◌++◌, Some}
 use Rattle.edge_traits.specs.declared.names.PledgeId.{PledgeId}
 use Rattle.journal_text.specs.declared.settings.Settings.{Settings}
 use Rattle.journal_text.specs.declared.refusal.Refusal.{Refusal}
 use Rattle.journal_text.specs.declared.refusal.Refusal.TheVariants as refusal
+use Rattle.journal_text.specs.Codes.{IsReason}
 use Rattle.journal_text.specs.declared.entry.Entry.{Entry}
-use Rattle.journal_text.specs.declared.entry.Entry.TheVariants.{Settings as SettingsEntry, Enroll, Grant, Refuse}
+use Rattle.journal_text.specs.declared.entry.Entry.TheVariants.{Settings as SettingsEntry, Enroll, Grant, Refuse, Block, Roll, Given, Stale, Switch, Release}
 use Rattle.join_history.specs.Times.{last_time}
 use Rattle.join_history.specs.Contexts.{pledge_of, context_count, HasCheck}
 use Rattle.join_history.specs.Decisions.{IsFresh}
-use Rattle.join_history.specs.Leases.{current_settings, IsDueAddress, HasNoAddress}
+use Rattle.join_history.specs.Leases.{current_settings, lease_end, IsDueAddress, HasNoAddress}
 
--- a pool within 0x0001 to 0xFFFD, and a lease of 1 to 65535 hours
+-- a pool within 0x0001 to 0xFFFD, and a lease of up to 65535 hours, or 0 for one without end
 pub record IsInRange (settings : Settings) : Type 0 where
   pub first : 1 ≤ settings.first
   pub count : 1 ≤ settings.count
   pub last : settings.first + settings.count ≤ 65534
-  pub hours_at_least : 1 ≤ settings.hours
-  pub hours_at_most : settings.hours ≤ 65535
+  pub hours : settings.hours ≤ 65535
 
 -- the time isn't before the last one, and fits 40 bits
 pub record IsTimely (g : List Entry) (time : ℕ) : Type 0 where
   pub not_before : last_time g ≤ time
   pub fits : time < 2 ^ 40
-
--- one of the reasons that a refusal may have
-abbrev pub IsReason : Refusal → Type 0
-IsReason refusal.Form = ⊤
-IsReason (refusal.Malformed label) = (label ≡ 1) ⊎ (label ≡ 5) ⊎ (label ≡ 8)
-IsReason (refusal.Unsupported label) = label ≡ 1
-IsReason refusal.Option = ⊤
-IsReason (refusal.Denied rule) = (1 ≤ rule) × (rule ≤ 4)
-IsReason refusal.Path = ⊤
-IsReason refusal.Method = ⊤
-IsReason refusal.NoAddress = ⊤
 
 -- a request of this context and number may be decided at this time, for this pledge under these settings
 pub record MayDecide (g : List Entry) (time context number : ℕ) (pledge : PledgeId) (settings : Settings) : Type 0 where
@@ -53,9 +42,16 @@ MayFollow g (SettingsEntry time settings) = IsTimely g time × IsInRange setting
 MayFollow g (Enroll context id check) = (context ≡ context_count g) × (context < 32768) × (HasCheck g check → ⊥)
 MayFollow g (Grant time context number address until) = (pledge : PledgeId) × (settings : Settings)
     × MayDecide g time context number pledge settings
-    × IsDueAddress g time pledge address × (until ≡ time + 3600 * settings.hours)
+    × IsDueAddress g time pledge address × (until ≡ lease_end time settings.hours)
 MayFollow g (Refuse time context number why) = (pledge : PledgeId) × (settings : Settings)
     × MayDecide g time context number pledge settings × IsTrueReason g time pledge why
+-- these aren't decided yet
+MayFollow g (Block context to) = ⊥
+MayFollow g (Roll time set) = ⊥
+MayFollow g (Given time context number epoch) = ⊥
+MayFollow g (Stale time id epoch) = ⊥
+MayFollow g (Switch time epoch) = ⊥
+MayFollow g (Release time id) = ⊥
 
 -- each entry may follow the entries before it
 abbrev pub IsLegal : List Entry → Type 0

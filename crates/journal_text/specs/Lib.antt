@@ -1,1 +1,5 @@
 pub mod Codes
+pub mod Numbers
+pub mod Text
+pub mod Reading
+pub mod Laws

@@ -3,6 +3,7 @@ ghost use Rattle.std.specs.Prelude.{◌≡◌, ⊤};
 
 use crate::{Refusal, Settings};
 use edge_traits::PledgeId;
+use key_sets::KeySet;
 use std::alloc::AllocError;
 
 /// A decision of the registrar. Times are whole seconds.
@@ -33,6 +34,39 @@ pub enum Entry {
         context: u32,
         number: u64,
         why: Refusal,
+    },
+    /// The registrar may send under the context with its own numbers below `to`.
+    Block {
+        context: u32,
+        to: u64,
+    },
+    /// A new key set comes into force.
+    Roll {
+        time: u64,
+        set: KeySet,
+    },
+    /// The context's node answered the update of this number, so it has the key set of the epoch.
+    Given {
+        time: u64,
+        context: u32,
+        number: u64,
+        epoch: u32,
+    },
+    /// The pledge didn't answer the updates of the epoch.
+    Stale {
+        time: u64,
+        id: PledgeId,
+        epoch: u32,
+    },
+    /// The key set of the epoch alone stays in force.
+    Switch {
+        time: u64,
+        epoch: u32,
+    },
+    /// The pledge's leases are taken back.
+    Release {
+        time: u64,
+        id: PledgeId,
     },
 }
 
@@ -75,6 +109,38 @@ impl Clone for Entry {
                 context: *context,
                 number: *number,
                 why: *why,
+            },
+            Entry::Block { context, to } => Entry::Block {
+                context: *context,
+                to: *to,
+            },
+            Entry::Roll { time, set } => Entry::Roll {
+                time: *time,
+                set: set.clone()?,
+            },
+            Entry::Given {
+                time,
+                context,
+                number,
+                epoch,
+            } => Entry::Given {
+                time: *time,
+                context: *context,
+                number: *number,
+                epoch: *epoch,
+            },
+            Entry::Stale { time, id, epoch } => Entry::Stale {
+                time: *time,
+                id: *id,
+                epoch: *epoch,
+            },
+            Entry::Switch { time, epoch } => Entry::Switch {
+                time: *time,
+                epoch: *epoch,
+            },
+            Entry::Release { time, id } => Entry::Release {
+                time: *time,
+                id: *id,
             },
         })
     }

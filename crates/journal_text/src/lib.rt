@@ -1,11 +1,24 @@
-// The entries of the journal: what the registrar decides, one entry each, and the settings that they speak of.
-// It promises the layers above one type for each kind of decision. Definitions are in specs/: Codes.
+// The entries of the journal, one for each decision of the registrar, and how each is spelled.
+// It promises the layers above that an entry is written in one way and read back as the same, that nothing else is read,
+// and that no entry's spelling begins another's. Definitions are in specs/: Codes, Numbers, Text, Reading and Laws.
 #![tactic(auto)]
 
 mod entry;
+mod fault;
+mod field;
+mod laws;
+mod part;
+mod read;
 mod refusal;
 mod settings;
+#[cfg(test)]
+mod tests;
+mod write;
 
 pub use entry::Entry;
+pub use fault::{Bad, Full};
+pub use laws::entry_law;
+pub use read::read_entry;
 pub use refusal::Refusal;
 pub use settings::Settings;
+pub use write::write_entry;

@@ -41,7 +41,8 @@ pub enum Refusal {
 }
 
 impl Refusal {
-    ghost use Rattle.journal_text.specs.Codes.{code_of};
+    ghost use Rattle.std.specs.Prelude.{◌≡◌, ◌↔◌, IsTrue};
+    ghost use Rattle.journal_text.specs.Codes.{code_of, IsReason};
 
     /// The code of the inner answer: the class in the upper three bits, the detail in the lower five (RFC 7252, 3).
     pub const fn code(self) -> u8
@@ -54,6 +55,19 @@ impl Refusal {
             Refusal::Path => NOT_FOUND,
             Refusal::Method => METHOD_NOT_ALLOWED,
             Refusal::NoAddress => SERVICE_UNAVAILABLE,
+        }
+    }
+
+    /// Whether the registrar has this reason: the labels are those of RFC 9031 that a Join Request has, and the rules
+    /// are 1 to 4.
+    pub fn is_reason(self) -> bool
+        ensures { IsTrue result ↔ IsReason self }
+    {
+        match self {
+            Refusal::Malformed(label) => matches!(label, 1 | 5 | 8),
+            Refusal::Unsupported(label) => label == 1,
+            Refusal::Denied(rule) => 1 <= rule && rule <= 4,
+            _ => true,
         }
     }
 }

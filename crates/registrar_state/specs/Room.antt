@@ -1,15 +1,13 @@
 -- Which room an entry takes.
 use Rattle.std.specs.Prelude.{◌≡◌, ◌+◌, ◌<◌}
 use Rattle.journal_text.specs.declared.entry.Entry.{Entry}
-use Rattle.journal_text.specs.declared.entry.Entry.TheVariants.{Settings, Enroll, Grant, Refuse}
+use Rattle.journal_text.specs.declared.entry.Entry.TheVariants.{Enroll}
 use Rattle.registrar_state.specs.declared.room.Room.{Room}
 
 -- there is room for the entry: for a context at an Enroll, else for another entry
 abbrev pub HasRoomFor : Room → Entry → Type 0
 HasRoomFor room (Enroll context id check) = 0 < room.contexts
-HasRoomFor room (Settings time settings) = 0 < room.entries
-HasRoomFor room (Grant time context number address until) = 0 < room.entries
-HasRoomFor room (Refuse time context number why) = 0 < room.entries
+HasRoomFor room _ = 0 < room.entries
 
 pub record TakesContext (old new : Room) : Type 0 where
   pub contexts : new.contexts + 1 ≡ old.contexts
@@ -22,6 +20,4 @@ pub record TakesEntry (old new : Room) : Type 0 where
 -- the entry took its room, and no more
 abbrev pub TakesRoom : Room → Room → Entry → Type 0
 TakesRoom old new (Enroll context id check) = TakesContext old new
-TakesRoom old new (Settings time settings) = TakesEntry old new
-TakesRoom old new (Grant time context number address until) = TakesEntry old new
-TakesRoom old new (Refuse time context number why) = TakesEntry old new
+TakesRoom old new _ = TakesEntry old new

@@ -1,9 +1,10 @@
 //! Which entries may follow a history.
-ghost use Rattle.std.specs.Prelude.{◌≡◌, ◌↔◌, ◌≤◌, ◌<◌, ◌^◌, ◌+◌, ◌*◌, ℕ, Some, IsTrue, IfSome, MatchOption};
+ghost use Rattle.std.specs.Prelude.{◌≡◌, ◌↔◌, ◌≤◌, ◌<◌, ◌^◌, ◌+◌, ℕ, Some, IsTrue, IfSome, MatchOption};
 ghost use Rattle.edge_traits.specs.declared.names.PledgeId.{PledgeId};
 ghost use Rattle.journal_text.specs.declared.settings.Settings.{Settings};
 ghost use Rattle.journal_text.specs.declared.entry.Entry.TheVariants.{Grant, Refuse};
-ghost use Rattle.join_history.specs.Legal.{IsLegal, IsInRange, IsTimely, IsReason, IsTrueReason, MayDecide, MayFollow};
+ghost use Rattle.join_history.specs.Legal.{IsLegal, IsInRange, IsTimely, IsTrueReason, MayDecide, MayFollow};
+ghost use Rattle.join_history.specs.Leases as leases;
 ghost use Rattle.join_history.specs.Leases.{current_settings, IsDueAddress, HasNoAddress};
 
 use crate::contexts::{context_count, has_check, pledge_of};
@@ -19,14 +20,21 @@ const MAX_CONTEXTS: u32 = 32_768;
 /// One past the greatest short address.
 pub const POOL_END: u32 = 65_534;
 
+/// The longest lease with an end, in hours.
+const MAX_HOURS: u16 = 65_535;
+
 const SECONDS_AN_HOUR: u64 = 3600;
 
-/// The second at which a lease of so many hours ends.
+/// The second at which a lease of so many hours ends, or 2^64 - 1 where it has no end.
 pub fn lease_end(at: u64, hours: u16) -> u64
     requires { at < 2 ^ 40 }
-    ensures { result ≡ at + 3600 * hours }
+    ensures { result ≡ leases.lease_end at hours }
 {
-    at + SECONDS_AN_HOUR * u64::from(hours)
+    if hours == 0 {
+        u64::MAX
+    } else {
+        at + SECONDS_AN_HOUR * u64::from(hours)
+    }
 }
 
 fn is_in_range(settings: &Settings) -> bool
@@ -35,24 +43,13 @@ fn is_in_range(settings: &Settings) -> bool
     1 <= settings.first
         && 1 <= settings.count
         && u32::from(settings.first) + u32::from(settings.count) <= POOL_END
-        && 1 <= settings.hours
+        && settings.hours <= MAX_HOURS
 }
 
 fn is_timely(entries: &[Entry], time: u64) -> bool
     ensures { IsTrue result ↔ IsTimely entries.now time }
 {
     last_time(entries) <= time && time <= LATEST
-}
-
-fn is_reason(why: Refusal) -> bool
-    ensures { IsTrue result ↔ IsReason why }
-{
-    match why {
-        Refusal::Malformed(label) => matches!(label, 1 | 5 | 8),
-        Refusal::Unsupported(label) => label == 1,
-        Refusal::Denied(rule) => 1 <= rule && rule <= 4,
-        _ => true,
-    }
 }
 
 /// The pledge and the settings under which a request may be decided, where it may.
@@ -135,7 +132,7 @@ fn is_true_reason(
 {
     match why {
         Refusal::NoAddress => has_no_address(entries, settings, at, pledge),
-        _ => is_reason(why),
+        _ => why.is_reason(),
     }
 }
 
@@ -174,5 +171,12 @@ pub fn may_follow(entries: &[Entry], entry: &Entry) -> bool
             number,
             why,
         } => { may_refuse(entries, *time, *context, *number, *why) }
+        // These aren't decided yet.
+        Entry::Block { .. }
+        | Entry::Roll { .. }
+        | Entry::Given { .. }
+        | Entry::Stale { .. }
+        | Entry::Switch { .. }
+        | Entry::Release { .. } => false,
     }
 }

@@ -21,8 +21,7 @@ impl Room {
     {
         match entry {
             Entry::Enroll { .. } => self.contexts -= 1,
-            Entry::Settings { .. } | Entry::Grant { .. } | Entry::Refuse { .. } => self.entries -=
-                1,
+            _ => self.entries -= 1,
         }
     }
 }

@@ -11,10 +11,15 @@ pub fn time_of(entry: &Entry) -> Option<u64>
     ensures { result ≡ spec.time_of entry.now }
 {
     match entry {
-        Entry::Settings { time, .. } | Entry::Grant { time, .. } | Entry::Refuse { time, .. } => {
-            Some(*time)
-        }
-        Entry::Enroll { .. } => None,
+        Entry::Settings { time, .. }
+        | Entry::Grant { time, .. }
+        | Entry::Refuse { time, .. }
+        | Entry::Roll { time, .. }
+        | Entry::Given { time, .. }
+        | Entry::Stale { time, .. }
+        | Entry::Switch { time, .. }
+        | Entry::Release { time, .. } => Some(*time),
+        Entry::Enroll { .. } | Entry::Block { .. } => None,
     }
 }
 

@@ -6,7 +6,7 @@ use Rattle.std.proofs.lemmas.List.{map_more, get_or_default, append_cancel_right
 use Rattle.std.proofs.lemmas.List.Elements.{Contains-push, Contains-push_cases, Contains-append_left}
 use Rattle.edge_traits.specs.declared.names.PledgeId.{PledgeId}
 use Rattle.journal_text.specs.declared.entry.Entry.{Entry}
-use Rattle.journal_text.specs.declared.entry.Entry.TheVariants.{Settings, Enroll, Grant, Refuse}
+use Rattle.journal_text.specs.declared.entry.Entry.TheVariants.{Enroll}
 use Rattle.join_history.specs.Contexts.{pledge_of, context_count, HasCheck}
 use Rattle.join_history.specs.Leases.{current_settings}
 use Rattle.join_history.specs.Opening.{EnrollsRows}
@@ -72,18 +72,14 @@ pledge_of-push (Enroll context id check ∷ h) e c none =
       | true ↦ λ some. absurd (cc some)
       | false ↦ λ still. pledge_of-push h e c still
     ]) none
-pledge_of-push (Settings time settings ∷ h) e c none = pledge_of-push h e c none
-pledge_of-push (Grant time context number address until ∷ h) e c none = pledge_of-push h e c none
-pledge_of-push (Refuse time context number why ∷ h) e c none = pledge_of-push h e c none
+pledge_of-push (_ ∷ h) e c none = pledge_of-push h e c none
 
 -- one more context
 context_count-push : (h : List Entry) (c : ℕ) (id : PledgeId) (check : List ℕ)
     → context_count (h ++ Enroll c id check ∷ []) ≡ context_count h + 1
 context_count-push [] c id check = refl
 context_count-push (Enroll context p k ∷ h) c id check = ap (λ (n : ℕ). n + 1) (context_count-push h c id check)
-context_count-push (Settings time settings ∷ h) c id check = context_count-push h c id check
-context_count-push (Grant time context number address until ∷ h) c id check = context_count-push h c id check
-context_count-push (Refuse time context number why ∷ h) c id check = context_count-push h c id check
+context_count-push (_ ∷ h) c id check = context_count-push h c id check
 
 module _ (g : List Entry) (ids : List PledgeId) (i : ℕ) (h : List Entry) (id : PledgeId) (in_range : i < length ids)
     (is : id ≡ get_or ids i id) (so_far : IsEnrolledUpTo g ids i h) where

@@ -4,7 +4,7 @@ use Rattle.std.specs.Prelude.{Contains}
 use Rattle.std.proofs.lemmas.List.Elements.{Contains-append_left}
 use Rattle.edge_traits.specs.declared.names.PledgeId.{PledgeId}
 use Rattle.journal_text.specs.declared.entry.Entry.{Entry}
-use Rattle.journal_text.specs.declared.entry.Entry.TheVariants.{Settings, Enroll, Grant, Refuse}
+use Rattle.journal_text.specs.declared.entry.Entry.TheVariants.{Enroll, Grant, Refuse}
 use Rattle.join_history.specs.declared.due.Want.{Want}
 use Rattle.join_history.specs.Leases.{current_settings}
 use Rattle.join_history.specs.Due.{IsDueEntry}
@@ -19,15 +19,13 @@ use Rattle.registrar_tool.specs.Opened.{IsListedAt, IsReady, AreAskable}
 pub DecidesRequest-due : (h : List Entry) (t c n : ℕ) (wish : Want) (e : Entry) → IsDueEntry h t c n wish e → DecidesRequest e
 DecidesRequest-due h t c n wish (Grant time context number address until) due = tt
 DecidesRequest-due h t c n wish (Refuse time context number why) due = tt
-DecidesRequest-due h t c n wish (Settings time settings) due = due
-DecidesRequest-due h t c n wish (Enroll context id check) due = due
+DecidesRequest-due h t c n wish _ due = due
 
 -- a decision leaves the settings
 current_settings-decided : (h : List Entry) (e : Entry) → DecidesRequest e → current_settings (h ++ e ∷ []) ≡ current_settings h
 current_settings-decided h (Grant time context number address until) decides = current_settings-push h (Grant time context number address until)
 current_settings-decided h (Refuse time context number why) decides = current_settings-push h (Refuse time context number why)
-current_settings-decided h (Settings time settings) decides = absurd decides
-current_settings-decided h (Enroll context id check) decides = absurd decides
+current_settings-decided h _ decides = absurd decides
 
 -- behind a decision the next one may be made
 pub IsReady-push : (h : List Entry) (ids : List PledgeId) (e : Entry) → IsReady h ids → DecidesRequest e

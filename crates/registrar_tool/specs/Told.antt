@@ -33,15 +33,13 @@ again_of (last.Refuse code) = outcome.AgainRefuse code
 abbrev pub DecidesRequest : Entry → Type 0
 DecidesRequest (entry.Grant time context number address until) = ⊤
 DecidesRequest (entry.Refuse time context number why) = ⊤
-DecidesRequest (entry.Settings time settings) = ⊥
-DecidesRequest (entry.Enroll context id check) = ⊥
+DecidesRequest _ = ⊥
 
 -- the outcome of what a context's request is due
 abbrev pub IsOutcome : List Entry → ℕ → Due → Outcome → Type 0
 IsOutcome h c (Add (entry.Grant time context number address until)) o = o ≡ outcome.Grant address until
 IsOutcome h c (Add (entry.Refuse time context number why)) o = o ≡ outcome.Refuse (code_of why)
-IsOutcome h c (Add (entry.Settings time settings)) o = ⊥
-IsOutcome h c (Add (entry.Enroll context id check)) o = ⊥
+IsOutcome h c (Add _) o = ⊥
 IsOutcome h c Again o = (answer : Last) × IsLastAnswer h c answer × (o ≡ again_of answer)
 IsOutcome h c (Quiet why) o = o ≡ outcome.Quiet why
 

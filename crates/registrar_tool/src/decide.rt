@@ -37,7 +37,7 @@ fn added_outcome(entry: &Entry) -> Outcome
             until: *until,
         },
         Entry::Refuse { why, .. } => Outcome::Refuse { code: why.code() },
-        Entry::Settings { .. } | Entry::Enroll { .. } => unreachable!(),
+        _ => unreachable!(),
     }
 }
 

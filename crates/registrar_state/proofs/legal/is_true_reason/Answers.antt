@@ -1,5 +1,5 @@
 use Rattle.std.proofs.Common.{subst, sym}
-use Rattle.join_history.specs.Legal.{IsReason}
+use Rattle.journal_text.specs.Codes.{IsReason}
 use Rattle.registrar_state.proofs.legal.is_true_reason.Goals as goal
 
 pub returns-in-NoAddress : goal.returns-in-NoAddress
