@@ -1,0 +1,9 @@
+pub mod AadLemmas
+pub mod BytesLemmas
+pub mod FieldLemmas
+pub mod KeyLemmas
+pub mod ProgressLemmas
+pub mod SealedLemmas
+pub mod StreamLemmas
+pub mod TableRules
+pub mod WordBytes

@@ -1,0 +1,116 @@
+//! What is measured: a case, what it does again and again, and what it answers after one time.
+use aes_ccm::{Aes128, Unsealed};
+
+const KEY: &[u8; 16] = b"\x00\x01\x02\x03\x04\x05\x06\x07\x08\x09\x0a\x0b\x0c\x0d\x0e\x0f";
+
+const NONCE: &[u8; 13] = b"0123456789:;<";
+
+const AAD: &[u8; 19] = b"additional data, 19";
+
+const TEXT: &[u8; 24] = b"a plaintext of 24 bytes.";
+
+// The sealing of the text, as the `cryptography` package of Python makes it.
+const SEALING: &[u8; 32] = b"\x8f\x13\x20\xb4\xfa\x01\x90\xe0\x36\x84\x05\x82\xea\xa9\x2b\xd0\
+    \x0e\xe1\x28\x64\x46\x98\xe0\x8c\xa6\x44\x58\x27\x4a\xab\xfa\xa9";
+
+// The block of FIPS 197, C.1, and what it is encrypted to.
+const BLOCK: &[u8; 16] = b"\x00\x11\x22\x33\x44\x55\x66\x77\x88\x99\xaa\xbb\xcc\xdd\xee\xff";
+
+const ENCRYPTED: &[u8; 16] = b"\x69\xc4\xe0\xd8\x6a\x7b\x04\x30\xd8\xcd\xb7\x80\x70\xb4\xc5\x5a";
+
+/// A hot path.
+#[derive(Clone, Copy)]
+pub enum Case {
+    Block,
+    Seal,
+    Unseal,
+    Key,
+}
+
+impl Case {
+    pub const ALL: [Case; 4] = [Case::Block, Case::Seal, Case::Unseal, Case::Key];
+
+    /// The case of this word.
+    pub fn of(word: &str) -> Option<Case> {
+        match word {
+            "block" => Some(Case::Block),
+            "seal" => Some(Case::Seal),
+            "unseal" => Some(Case::Unseal),
+            "key" => Some(Case::Key),
+            _ => None,
+        }
+    }
+
+    pub fn word(&self) -> &'static str {
+        match self {
+            Case::Block => "block",
+            Case::Seal => "seal",
+            Case::Unseal => "unseal",
+            Case::Key => "key",
+        }
+    }
+
+    /// Whether the answer after one time is the known one.
+    pub fn is_right(&self) -> bool {
+        match self {
+            Case::Block => blocks(1) == *ENCRYPTED,
+            Case::Seal => seals(1) == *SEALING,
+            Case::Unseal => unseals(1)[..24] == TEXT[..],
+            Case::Key => keys(1) == *ENCRYPTED,
+        }
+    }
+
+    /// Repeats the case, and tells whether its last answer is another than what it began with: each answer is used, so
+    /// that the compiler leaves none out.
+    pub fn repeat(&self, count: u64) -> bool {
+        match self {
+            Case::Block => blocks(count) != *BLOCK,
+            Case::Seal => seals(count)[24..] != [0; 8],
+            Case::Unseal => unseals(count) != *SEALING,
+            Case::Key => keys(count) != *BLOCK,
+        }
+    }
+}
+
+fn blocks(count: u64) -> [u8; 16] {
+    let cipher = Aes128::new(KEY);
+    let mut block = *BLOCK;
+    for _ in 0..count {
+        let next = cipher.block(&block);
+        block = next;
+    }
+    block
+}
+
+fn seals(count: u64) -> [u8; 32] {
+    let cipher = Aes128::new(KEY);
+    let mut buf = [0; 32];
+    buf[..24].copy_from_slice(TEXT);
+    for _ in 0..count {
+        let _ = cipher.seal(NONCE, AAD, &mut buf, 24);
+    }
+    buf
+}
+
+fn unseals(count: u64) -> [u8; 32] {
+    let cipher = Aes128::new(KEY);
+    let mut buf = *SEALING;
+    for _ in 0..count {
+        buf = *SEALING;
+        if cipher.unseal(NONCE, AAD, &mut buf, 32) != Unsealed::Opened(24) {
+            return *SEALING;
+        }
+    }
+    buf
+}
+
+fn keys(count: u64) -> [u8; 16] {
+    let mut key = *KEY;
+    let mut block = *BLOCK;
+    for _ in 0..count {
+        let next = Aes128::new(&key).block(BLOCK);
+        key = next;
+        block = next;
+    }
+    block
+}

@@ -1,0 +1,118 @@
+// The program that measures what the product spends its time on, case by case.
+// It promises its user that with no words each case's answer is compared with one from elsewhere, and that with the word of
+// a case and a count the time of that many repetitions is told. It proves nothing of its own, and has no definitions.
+#![tactic(auto)]
+
+mod case;
+mod status;
+
+use case::Case;
+use status::Status;
+use std::process::ExitCode;
+use std::time::Instant;
+use std::{env, io};
+
+const HELP: &str = "\
+registrar_bench: measures the registrar's hot paths
+
+registrar_bench
+    compares one answer of each case with a known one
+registrar_bench CASE COUNT
+    repeats the case, and prints it, the count and the nanoseconds
+registrar_bench --help
+registrar_bench --version
+
+block     encrypts a block
+seal      seals 24 bytes with 19 bytes of additional data
+unseal    opens what `seal` makes
+key       expands a key, and encrypts a block under it
+";
+
+const VERSION: &str = "registrar_bench 0.1.0\n";
+
+/// The words behind the program's name.
+fn words_of(rt: &HostRuntime) -> io::Result<Vec<String>> {
+    let mut words = Vec::new(rt.alloc());
+    for word in env::args(rt)?.skip(1) {
+        words.push(word)?;
+    }
+    Ok(words)
+}
+
+fn tell(rt: &HostRuntime, text: &str) -> Status {
+    match print!(rt; "{text}") {
+        Ok(()) => Status::Done,
+        Err(_) => Status::WriteFault,
+    }
+}
+
+/// Compares an answer of each case, and prints a line for it.
+fn check(rt: &HostRuntime) -> Status {
+    let mut status = Status::Done;
+    for case in &Case::ALL {
+        let word = case.word();
+        let line = if case.is_right() {
+            println!(rt; "{word} right")
+        } else {
+            status = Status::Wrong;
+            println!(rt; "{word} wrong")
+        };
+        if line.is_err() {
+            return Status::WriteFault;
+        }
+    }
+    status
+}
+
+/// Repeats a case, and prints the time that it took.
+fn measure(rt: &HostRuntime, case: Case, count: u64) -> Status {
+    let Ok(start) = Instant::now(rt) else {
+        return Status::ClockFault;
+    };
+    let answered = case.repeat(count);
+    let Ok(time) = start.elapsed(rt) else {
+        return Status::ClockFault;
+    };
+    if !answered && count > 0 {
+        return Status::Wrong;
+    }
+    let word = case.word();
+    match println!(rt; "{word} {count} {}", time.as_nanos()) {
+        Ok(()) => Status::Done,
+        Err(_) => Status::WriteFault,
+    }
+}
+
+/// A number of one to twenty decimal digits.
+fn number_of(word: &str) -> Option<u64> {
+    let digits = word.as_bytes();
+    if digits.len() > 20 || !digits.iter().all(|digit| digit.is_ascii_digit()) {
+        return None;
+    }
+    word.parse().ok()
+}
+
+fn status_of(rt: &HostRuntime, words: &[String]) -> Status {
+    match words {
+        [] => check(rt),
+        [word] if word.as_str() == "--help" => tell(rt, HELP),
+        [word] if word.as_str() == "--version" => tell(rt, VERSION),
+        [word, count] => match (Case::of(word.as_str()), number_of(count.as_str())) {
+            (Some(case), Some(count)) => measure(rt, case, count),
+            _ => Status::Usage,
+        },
+        _ => Status::Usage,
+    }
+}
+
+fn main(rt: HostRuntime) -> ExitCode {
+    let status = match words_of(&rt) {
+        Ok(words) => status_of(&rt, &words),
+        Err(error) if error.kind() == io::ErrorKind::OutOfMemory => Status::NoMemory,
+        Err(_) => Status::Usage,
+    };
+    if status != Status::Done {
+        let _ = eprintln!(rt; "{}", status.text());
+    }
+    ExitCode::from(status.number())
+}
