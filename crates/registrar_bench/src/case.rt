@@ -1,5 +1,10 @@
 //! What is measured: a case, what it does again and again, and what it answers after one time.
+ghost use Rattle.std.specs.Prelude.{◌≡◌, ◌<◌, length};
+
 use aes_ccm::{Aes128, Unsealed};
+use hkdf_sha256::{expand, extract};
+use seq_table::{Draw, Seat, SeqTable};
+use std::alloc::Global;
 
 const KEY: &[u8; 16] = b"\x00\x01\x02\x03\x04\x05\x06\x07\x08\x09\x0a\x0b\x0c\x0d\x0e\x0f";
 
@@ -18,6 +23,14 @@ const BLOCK: &[u8; 16] = b"\x00\x11\x22\x33\x44\x55\x66\x77\x88\x99\xaa\xbb\xcc\
 
 const ENCRYPTED: &[u8; 16] = b"\x69\xc4\xe0\xd8\x6a\x7b\x04\x30\xd8\xcd\xb7\x80\x70\xb4\xc5\x5a";
 
+// What a key of 16 bytes is derived for, and the key that the secret above gives, as Python's `hmac` makes it.
+const INFO: &[u8] = b"a key of 16 bytes";
+
+const DERIVED: &[u8; 16] = b"\x1b\x3f\x00\x9b\xd3\x1a\xf1\x50\x7b\xad\x52\xa3\x80\xb7\x85\x58";
+
+/// How many numbers a seat draws.
+const DRAWS: u64 = 1 << 24;
+
 /// A hot path.
 #[derive(Clone, Copy)]
 pub enum Case {
@@ -25,10 +38,19 @@ pub enum Case {
     Seal,
     Unseal,
     Key,
+    Derive,
+    Draw,
 }
 
 impl Case {
-    pub const ALL: [Case; 4] = [Case::Block, Case::Seal, Case::Unseal, Case::Key];
+    pub const ALL: [Case; 6] = [
+        Case::Block,
+        Case::Seal,
+        Case::Unseal,
+        Case::Key,
+        Case::Derive,
+        Case::Draw,
+    ];
 
     /// The case of this word.
     pub fn of(word: &str) -> Option<Case> {
@@ -37,6 +59,8 @@ impl Case {
             "seal" => Some(Case::Seal),
             "unseal" => Some(Case::Unseal),
             "key" => Some(Case::Key),
+            "derive" => Some(Case::Derive),
+            "draw" => Some(Case::Draw),
             _ => None,
         }
     }
@@ -47,27 +71,33 @@ impl Case {
             Case::Seal => "seal",
             Case::Unseal => "unseal",
             Case::Key => "key",
+            Case::Derive => "derive",
+            Case::Draw => "draw",
         }
     }
 
     /// Whether the answer after one time is the known one.
-    pub fn is_right(&self) -> bool {
+    pub fn is_right(&self, alloc: Global) -> bool {
         match self {
             Case::Block => blocks(1) == *ENCRYPTED,
             Case::Seal => seals(1) == *SEALING,
             Case::Unseal => unseals(1)[..24] == TEXT[..],
             Case::Key => keys(1) == *ENCRYPTED,
+            Case::Derive => derives(1) == *DERIVED,
+            Case::Draw => draws(alloc, 2) == Some(1),
         }
     }
 
     /// Repeats the case, and tells whether its last answer is another than what it began with: each answer is used, so
     /// that the compiler leaves none out.
-    pub fn repeat(&self, count: u64) -> bool {
+    pub fn repeat(&self, alloc: Global, count: u64) -> bool {
         match self {
             Case::Block => blocks(count) != *BLOCK,
             Case::Seal => seals(count)[24..] != [0; 8],
             Case::Unseal => unseals(count) != *SEALING,
             Case::Key => keys(count) != *BLOCK,
+            Case::Derive => derives(count) != *KEY,
+            Case::Draw => draws(alloc, count).is_some(),
         }
     }
 }
@@ -113,4 +143,46 @@ fn keys(count: u64) -> [u8; 16] {
         block = next;
     }
     block
+}
+
+fn derives(count: u64) -> [u8; 16] {
+    let mut key = *KEY;
+    for _ in 0..count {
+        let next = expand::<16>(&extract(&[], &key), INFO);
+        key = next;
+    }
+    key
+}
+
+/// The last of so many numbers, by as many tables as it takes.
+fn draws(alloc: Global, count: u64) -> Option<u64> {
+    let mut last = None;
+    let mut left = count;
+    while left > 0 {
+        let turn = left.min(DRAWS);
+        last = draws_of_one(alloc, turn);
+        left -= turn;
+    }
+    last
+}
+
+fn draws_of_one(alloc: Global, count: u64) -> Option<u64> {
+    let Ok((table, mut seats)) = SeqTable::new(alloc, &[0], 1) else {
+        return None;
+    };
+    let mut seat = seats.pop()?;
+    draws_by(&table, &mut seat, count)
+}
+
+fn draws_by(table: &SeqTable, seat: &mut Seat, count: u64) -> Option<u64>
+    requires seat { seat.old.table ≡ table.now }
+    requires context { 0 < length table.now.bases }
+{
+    let mut last = None;
+    for _ in 0..count {
+        if let Draw::Number(number) = table.draw(seat, 0) {
+            last = Some(number);
+        }
+    }
+    last
 }

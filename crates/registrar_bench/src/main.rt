@@ -26,6 +26,8 @@ block     encrypts a block
 seal      seals 24 bytes with 19 bytes of additional data
 unseal    opens what `seal` makes
 key       expands a key, and encrypts a block under it
+derive    derives a key of 16 bytes from a secret
+draw      draws a sender sequence number
 ";
 
 const VERSION: &str = "registrar_bench 0.1.0\n";
@@ -51,7 +53,7 @@ fn check(rt: &HostRuntime) -> Status {
     let mut status = Status::Done;
     for case in &Case::ALL {
         let word = case.word();
-        let line = if case.is_right() {
+        let line = if case.is_right(rt.alloc()) {
             println!(rt; "{word} right")
         } else {
             status = Status::Wrong;
@@ -69,7 +71,7 @@ fn measure(rt: &HostRuntime, case: Case, count: u64) -> Status {
     let Ok(start) = Instant::now(rt) else {
         return Status::ClockFault;
     };
-    let answered = case.repeat(count);
+    let answered = case.repeat(rt.alloc(), count);
     let Ok(time) = start.elapsed(rt) else {
         return Status::ClockFault;
     };

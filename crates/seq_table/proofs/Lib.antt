@@ -1,0 +1,4 @@
+pub mod ListLemmas
+pub mod Totals
+pub mod Steps
+pub mod EndLemmas
