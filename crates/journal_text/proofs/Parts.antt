@@ -211,7 +211,7 @@ reason_takes : (end : ℕ) (input : List ℕ) (why : Refusal) (rest : List ℕ) 
     → Taken input (reason_text why) rest × IsReason why
 unfolding reason_at
 reason_takes end [] why rest fits e = absurd (err_is_not_ok (place end []) (why, rest) e)
-reason_takes end (code ∷ []) why rest fits e = absurd (err_is_not_ok (place end []) (why, rest) e)
+reason_takes end (code ∷ []) why rest fits e = absurd (err_is_not_ok (place end (code ∷ [])) (why, rest) e)
 reason_takes end (code ∷ label ∷ input) why rest fits e =
     let found = found_is (place end (code ∷ label ∷ input)) (reason_of code label) input why rest e in
     let says = reason_is code label why found.0 in

@@ -21,7 +21,7 @@ abbrev pub ◌>>=◌ : {A B : Type 0} → Result A ℕ → (A → Result B ℕ) 
 -- what a function returned, seen by view, is what reading gives
 abbrev pub Gives : {X Y : Type 0} → (X → Y) → Result X Bad → Result Y ℕ → Type 0
 Gives view (Ok x) read = read ≡ Ok (view x)
-Gives view (Err bad) read = read ≡ Err bad.at
+Gives view (Err bad) read = read ≡ Err bad.0
 
 -- ---- fields
 
@@ -119,7 +119,7 @@ found_at at (Some x) bytes = Ok (x, bytes)
 -- a code and a label, which have a meaning together
 unfoldable pub reason_at : ℕ → List ℕ → Result (Refusal × List ℕ) ℕ
 reason_at end [] = Err (place end [])
-reason_at end (code ∷ []) = Err (place end [])
+reason_at end (code ∷ []) = Err (place end (code ∷ []))
 reason_at end (code ∷ label ∷ bytes) = found_at (place end (code ∷ label ∷ bytes)) (reason_of code label) bytes
 
 -- ---- entries, behind their kind byte
@@ -219,4 +219,4 @@ entry_at end (kind ∷ bytes) = fields_at kind (place end (kind ∷ bytes)) end 
 -- an entry and how many bytes it takes, or the place of the first fault
 abbrev pub IsEntryRead : List ℕ → Result (Entry × ℕ) Bad → Type 0
 IsEntryRead bytes (Ok (e, size)) = (entry_at (length bytes) bytes ≡ Ok (e, drop size bytes)) × (size ≤ length bytes)
-IsEntryRead bytes (Err bad) = entry_at (length bytes) bytes ≡ Err bad.at
+IsEntryRead bytes (Err bad) = entry_at (length bytes) bytes ≡ Err bad.0

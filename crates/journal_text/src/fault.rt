@@ -1,12 +1,10 @@
 //! Why an entry can't be read, or written.
 use thiserror::Error;
 
-/// No front of the bytes is an entry. `at` is the place of the first field that goes past the end or has no meaning.
+/// No front of the bytes is an entry. The place is that of the first field that goes past the end or has no meaning.
 #[derive(Clone, Copy, Debug, PartialEq, Eq, Error)]
-#[error("no entry: the field at byte {at}")]
-pub struct Bad {
-    pub at: usize,
-}
+#[error("no entry: the field at byte {0}")]
+pub struct Bad(pub usize);
 
 /// The entry takes this many bytes, more than there is room for.
 #[derive(Clone, Copy, Debug, PartialEq, Eq, Error)]

@@ -8,11 +8,9 @@ use byteorder::{BigEndian, ByteOrder};
 
 /// The fault at the front of these bytes.
 pub fn bad(end: usize, bytes: &[u8]) -> Bad
-    ensures { result.at ≡ place end bytes.now }
+    ensures { result.0 ≡ place end bytes.now }
 {
-    Bad {
-        at: end.saturating_sub(bytes.len()),
-    }
+    Bad(end.saturating_sub(bytes.len()))
 }
 
 fn front_number(size: usize, bytes: &[u8]) -> u64

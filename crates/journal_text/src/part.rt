@@ -11,7 +11,7 @@ use edge_traits::PledgeId;
 type Options = (Option<u32>, Option<[u8; 16]>);
 
 fn read_options_by(flags: u8, bad: Bad, end: usize, bytes: &[u8]) -> Result<(Options, &[u8]), Bad>
-    ensures { Gives (λ x. (x.0, x.1.now)) result (options_by flags bad.at end bytes.now) }
+    ensures { Gives (λ x. (x.0, x.1.now)) result (options_by flags bad.0 end bytes.now) }
 {
     match flags {
         0 => Ok(((None, None), bytes)),
@@ -154,6 +154,6 @@ pub fn read_reason(end: usize, bytes: &[u8]) -> Result<(Refusal, &[u8]), Bad>
             Some(why) => Ok((why, rest)),
             None => Err(bad(end, bytes)),
         },
-        _ => Err(bad(end, &[])),
+        _ => Err(bad(end, bytes)),
     }
 }

@@ -139,7 +139,7 @@ fn read_release(end: usize, bytes: &[u8]) -> Read<'_>
 /// The fields behind a kind byte.
 #[tactic(auto, unfolding(crate::specs::Reading::fields_at))]
 fn read_fields(kind: u8, bad: Bad, end: usize, bytes: &[u8]) -> Read<'_>
-    ensures { Gives (λ x. (x.0, x.1.now)) result (fields_at kind bad.at end bytes.now) }
+    ensures { Gives (λ x. (x.0, x.1.now)) result (fields_at kind bad.0 end bytes.now) }
 {
     match kind {
         1 => read_settings_entry(end, bytes),

@@ -159,7 +159,7 @@ fn settings_are_spelled_and_read(rt: HostRuntime) {
 }
 
 /// Bytes that begin with no entry, and the place of the first field that is wrong.
-const WRONG: [(&[u8], usize); 8] = [
+const WRONG: [(&[u8], usize); 9] = [
     (b"", 0),
     (b"\x00", 0),
     (b"\x0b\x00", 0),
@@ -182,6 +182,11 @@ const WRONG: [(&[u8], usize); 8] = [
         b"\x04\x00\x00\x00\x00\x00\x00\x00\x00\x00\x00\x00\x00\x00\x00\x00\x00\x00\x83\x05",
         18,
     ),
+    // a code without its label
+    (
+        b"\x04\x00\x00\x00\x00\x00\x00\x00\x00\x00\x00\x00\x00\x00\x00\x00\x00\x00\x83",
+        18,
+    ),
 ];
 
 #[test]
@@ -189,7 +194,7 @@ fn the_first_wrong_field_is_told(rt: HostRuntime) {
     for (bytes, at) in WRONG {
         match read_entry(bytes) {
             Ok(_) => assert!(rt; false, "an entry"),
-            Err(bad) => assert_eq!(rt; bad, Bad { at }),
+            Err(bad) => assert_eq!(rt; bad, Bad(at)),
         }
     }
 }

@@ -298,6 +298,7 @@ fn release(time: u64, id: PledgeId) -> Text
 fn text_of(entry: &Entry) -> Text
     requires { IsSpellable entry.now }
     ensures items { result.items ≡ entry_text entry.now }
+    ensures size { length (entry_text entry.now) ≤ MAX_ENTRY }
     ensures fit { Fits entry.now }
 {
     match entry {
@@ -336,6 +337,7 @@ pub fn write_entry(entry: &Entry, out: &mut ArrayVec<u8, 4096>) -> Result<(), Fu
     requires { IsSpellable entry.now }
     ensures written { OnOk result (out.new.items ≡ out.old.items ++ entry_text entry.now) }
     ensures fits { Fits entry.now }
+    ensures size { length (entry_text entry.now) ≤ 165 }
     ensures room { OnOk result (length out.old.items + length (entry_text entry.now) ≤ 4096) }
     ensures full { IfErr result (λ full. (full.0 ≡ length (entry_text entry.now)) × (4096 < length out.old.items + full.0)) }
     ensures err { OnErr result (out.new ≡ out.old) }

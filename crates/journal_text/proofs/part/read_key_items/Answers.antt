@@ -18,6 +18,6 @@ returns-in_err-key c =
     let p = err_from_is_err_and c.from_residual.result c.from_residual.ensures.1 in
     let left = c.args.count - (c.loop-turn._turn + 1) in
     let one : c.args.count - c.loop-turn._turn ≡ suc left = omega arith in
-    let none = item_none key_of 16 left c.args.end c.in_err-key.field-0.0.at c.loop-turn.keys.items c.loop-turn.rest.now c.in_err-key.ensures in
+    let none = item_none key_of 16 left c.args.end c.in_err-key.field-0.0.0 c.loop-turn.keys.items c.loop-turn.rest.now c.in_err-key.ensures in
     let before = ap (λ (n : ℕ). with_front c.loop-turn.keys.items (items_at key_of 16 n c.args.end c.loop-turn.rest.now)) one in
     rw (p.1, p.2) (sym c.loop-turn.invariant.read ∙ before ∙ none)

@@ -31,4 +31,4 @@ returns-in-Ok-clause-exact c =
     (c.in-Ok.ensures ∙ ap (λ (xs : List ℕ). Ok (c.in-Ok.entry, xs)) (sym s.back), omega arith)
 
 pub returns-in-Err-clause-only : goal.returns-in-Err-clause-only
-returns-in-Err-clause-only c e rest fit spelled = absurd (no_entry c.args.bytes.now c.in-Err.bad.at e rest c.in-Err.ensures fit spelled)
+returns-in-Err-clause-only c e rest fit spelled = absurd (no_entry c.args.bytes.now c.in-Err.bad.0 e rest c.in-Err.ensures fit spelled)
