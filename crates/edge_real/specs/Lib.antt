@@ -1,3 +1,4 @@
 pub mod Faults
+pub mod FileDisk
 pub mod StdSink
 pub mod StdSource

@@ -2,6 +2,7 @@
 ghost use Rattle.std.specs.Prelude.{◌<◌, ◌^◌};
 
 use edge_traits::Failed;
+use std::io;
 
 /// How many calls failed, at most 2^64 - 1.
 #[derive(Drop)]
@@ -11,8 +12,8 @@ pub struct Faults {
 }
 
 impl Faults {
-    ghost use Rattle.std.specs.Prelude.{◌≡◌};
-    ghost use Rattle.edge_real.specs.Faults.{counted_up};
+    ghost use Rattle.std.specs.Prelude.{◌≡◌, MatchResult, Ok, IsErr};
+    ghost use Rattle.edge_real.specs.Faults.{counted_up, Counts};
 
     pub fn none() -> Self
         ensures { result.count ≡ 0 }
@@ -26,6 +27,17 @@ impl Faults {
     {
         self.count = self.count.saturating_add(1);
         Failed
+    }
+
+    /// Counts the call if it failed.
+    pub fn told<T: Drop>(&mut self, answer: io::Result<T>) -> Result<T, Failed>
+        ensures counted { Counts self.old.count self.new.count result }
+        ensures same { MatchResult answer (λ value. result ≡ Ok value) (λ _. IsErr result) }
+    {
+        match answer {
+            Ok(value) => Ok(value),
+            Err(_) => Err(self.rise()),
+        }
     }
 
     pub fn count(&self) -> u64
