@@ -1,0 +1,16 @@
+pub mod ListLemmas
+pub mod Totals
+pub mod Growth
+pub mod Turns
+pub mod Words
+pub mod DrawStep
+pub mod LookStep
+pub mod AdvanceStep
+pub mod LeaveStep
+pub mod NudgeStep
+pub mod PassSteps
+pub mod Gathering
+pub mod Ending
+pub mod Taking
+pub mod Opening
+pub mod Sent

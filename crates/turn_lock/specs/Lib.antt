@@ -1,0 +1,7 @@
+pub mod Report
+pub mod Views
+pub mod Rule
+pub mod Locks
+pub mod Seated
+pub mod Ends
+pub mod Numbers

@@ -1,0 +1,49 @@
+-- A lock, a pass and a holding as callers see them.
+use Rattle.std.specs.Prelude.{ℕ, Bool, true, false, List, [], ◌∷◌, ◌++◌, length}
+use Rattle.atomic_table.specs.Seated.{TableId}
+use Rattle.turn_lock.specs.declared.rule.Addition.{Addition}
+use Rattle.turn_lock.specs.Report.{Report}
+use Rattle.turn_lock.specs.Views.{addition, numbers_of}
+
+-- which lock it is, how many passes it has, and the value that it was made with
+pub record LockView (V : Type 0) : Type 0 where
+  pub id : TableId
+  pub passes : ℕ
+  pub opening : V
+
+-- the pass's lock, the value that it saw last, what its own holdings added, in order, and whether it has the turn
+pub record PassView (V : Type 0) : Type 0 where
+  pub lock : LockView V
+  pub seen : V
+  pub own : List Addition
+  pub has_turn : Bool
+
+-- the lock that is held, and the value
+pub record HeldView (V : Type 0) : Type 0 where
+  pub lock : LockView V
+  pub value : V
+
+-- the numbers of the reports that the pass owns
+abbrev pub numbers_in : {V : Type 0} → PassView V → List ℕ
+numbers_in pass = numbers_of pass.own
+
+-- a pass that saw the opening value alone
+abbrev pub new_pass : {V : Type 0} → LockView V → PassView V
+new_pass lock = record { lock = lock; seen = lock.opening; own = []; has_turn = false }
+
+-- a pass that has the turn, and so has seen the value as it was found
+abbrev pub with_turn : {V : Type 0} → PassView V → V → PassView V
+with_turn pass found = record { lock = pass.lock; seen = found; own = pass.own; has_turn = true }
+
+-- a pass whose holding ended with this value: it owns the report of that number, and the places that were added
+abbrev pub with_report : {V I : Type 0} → (V → Report I) → PassView V → ℕ → V → PassView V
+with_report report pass number value = record {
+  lock = pass.lock;
+  seen = value;
+  own = pass.own ++ addition number (length (report pass.seen).items) (length (report value).items) ∷ [];
+  has_turn = false;
+}
+
+-- the same holding, of another value
+abbrev pub held_with : {V : Type 0} → HeldView V → V → HeldView V
+held_with held value = record { lock = held.lock; value = value }

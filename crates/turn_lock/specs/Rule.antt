@@ -1,0 +1,112 @@
+-- The rule of the lock: what stands of its words, its slot and all views between any two steps.
+use Rattle.std.specs.Prelude.{◌≡◌, ℕ, ◌+◌, ◌*◌, ◌^◌, ◌≤◌, true, false, List, [], ◌∷◌, ◌++◌, ◌==◌, ◌&&◌, if◌then◌else◌, Option, Some, length, slice_index, nat_le, nat_lt}
+use mathlib.Core.Option as home
+use mathlib.Core.List.{IsPrefix}
+use mathlib.Core.Logic.{◌⊎◌}
+use lib.ListN.{get_elem?}
+use Rattle.atomic_table.specs.Table.{State}
+use Rattle.turn_lock.specs.declared.rule.Addition.{Addition}
+use Rattle.turn_lock.specs.declared.rule.View.{View}
+use Rattle.turn_lock.specs.Report.{Report, MayFollow}
+use Rattle.turn_lock.specs.Views.{numbers_of, places_of}
+
+-- how often a number stands in a list
+abbrev pub times : ℕ → List ℕ → ℕ
+times number [] = 0
+times number (n ∷ ns) = (if n == number then 1 else 0) + times number ns
+
+-- 1 where the number is at least `from` and below `to`, else 0
+abbrev pub once_within : ℕ → ℕ → ℕ → ℕ
+once_within from to number = if nat_le from number && nat_lt number to then 1 else 0
+
+-- P of each element
+abbrev pub Each : {X : Type 0} → (X → Type 0) → List X → Type 0
+Each P [] = Unit {0}
+Each P (x ∷ xs) = P x × Each P xs
+
+module _ {V : Type 0} where
+  -- f of each view, added up
+  abbrev pub total : (View V → ℕ) → List (View V) → ℕ
+  total f [] = 0
+  total f (v ∷ vs) = f v + total f vs
+
+  abbrev pub ticket_times : ℕ → View V → ℕ
+  ticket_times x v = times x v.tickets
+
+  abbrev pub ticket_count : View V → ℕ
+  ticket_count v = length v.tickets
+
+  abbrev pub number_times : ℕ → View V → ℕ
+  number_times x v = times x (numbers_of v.own)
+
+  abbrev pub number_count : View V → ℕ
+  number_count v = length v.own
+
+  abbrev pub place_times : ℕ → View V → ℕ
+  place_times x v = times x (places_of v.own)
+
+  abbrev pub turns_of : View V → ℕ
+  turns_of v = v.turns
+
+  abbrev pub passes_of : View V → ℕ
+  passes_of v = v.passes
+
+  -- over all views, each number from `from` to below `to` stands once, and no other stands at all
+  abbrev pub OnceEach : (ℕ → View V → ℕ) → ℕ → ℕ → List (View V) → Type 0
+  OnceEach times_in from to views = (x : ℕ) → total (times_in x) views ≡ once_within from to x
+
+  -- Either the value is in its slot, it is the last of all, and nobody has the turn; or the slot is empty, and a seat has the turn
+  abbrev pub IsSlot : List (home.Option (Option V)) → V → List (View V) → Type 0
+  IsSlot homes last views =
+      ((homes ≡ home.some (Some last) ∷ []) × ((id : ℕ) (v : View V) → get_elem? views id ≡ home.some v → v.turn ≡ false))
+      ⊎ ((homes ≡ home.none ∷ []) × ((id : ℕ) × (v : View V) × (get_elem? views id ≡ home.some v) × (v.turn ≡ true)))
+
+  module _ {I O : Type 0} (report : V → Report I) (origin : V → O) where
+    -- each value may follow each before it
+    abbrev pub IsGrowing : List V → Type 0
+    IsGrowing [] = Unit {0}
+    IsGrowing (v ∷ vs) = Each (MayFollow report origin v) vs × IsGrowing vs
+
+    -- the report of that number among all of these added those places to the one before it
+    pub record IsAdded (all : List V) (a : Addition) : Type 0 where
+      pub earlier : List V
+      pub before : V
+      pub after : V
+      pub later : List V
+      pub stands : earlier ++ before ∷ after ∷ later ≡ all
+      pub number : a.report ≡ length earlier + 1
+      pub from : a.from ≡ length (report before).items
+      pub until : a.until ≡ length (report after).items
+
+    pub record Fits (turn : ℕ) (all : List V) (v : View V) : Type 0 where
+      pub seen : IsPrefix v.seen all
+      pub also : Each (λ (seen : List V). IsPrefix seen all) v.also
+      -- the seat that has the turn has the ticket whose turn it is, and has seen all
+      pub holds : v.turn ≡ true → (v.tickets ≡ turn ∷ []) × (v.seen ≡ all)
+      pub own : Each (IsAdded all) v.own
+      pub few : length v.own ≤ 2 ^ 47 * v.passes
+      pub turns : v.turns ≤ 2 ^ 47 * v.passes
+      pub waits : length v.tickets ≤ v.passes
+
+    -- the rule over the ticket word, the turn word, the count word, the slot and the views, where the values reported are `before` and then `last`
+    pub record Stands (passes : ℕ) (opening : V) (ticket turn count : ℕ) (homes : List (home.Option (Option V))) (views : List (View V)) (before : List V) (last : V) : Type 0 where
+      pub tickets : OnceEach ticket_times turn ticket views
+      pub waiting : turn + total ticket_count views ≡ ticket
+      pub taken : total turns_of views ≡ ticket
+      pub numbers : OnceEach number_times 1 count views
+      pub counted : count ≡ 1 + total number_count views
+      pub places : OnceEach place_times (length (report opening).items) (length (report last).items) views
+      pub list : count ≡ length before + 1
+      pub opens : IsPrefix (opening ∷ []) (before ++ last ∷ [])
+      pub growing : IsGrowing (before ++ last ∷ [])
+      pub slot : IsSlot homes last views
+      pub all_passes : total passes_of views ≡ passes
+      pub few : passes ≤ 65535
+      pub fits : (id : ℕ) (v : View V) → get_elem? views id ≡ home.some v → Fits turn (before ++ last ∷ []) v
+
+    -- the words are the ticket word, the turn word, the count word, and one for each pass to sleep on
+    pub record IsKept (passes : ℕ) (opening : V) (s : State (Option V) (View V)) : Type 0 where
+      pub before : List V
+      pub last : V
+      pub words : length s.words ≡ passes + 3
+      pub stands : Stands passes opening (slice_index s.words 0) (slice_index s.words 1) (slice_index s.words 2) s.homes s.views before last

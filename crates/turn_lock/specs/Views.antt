@@ -1,0 +1,87 @@
+-- What a seat knows of its lock, and what each step makes of it.
+use Rattle.std.specs.Prelude.{◌≡◌, ◌≢◌, ℕ, ◌+◌, ◌-◌, ◌<◌, ◌≤◌, true, false, List, [], ◌∷◌, ◌++◌, Option, Some, All, map, length, zero, suc, nat_le, if◌then◌else◌}
+use Rattle.atomic_table.specs.Table.{Me, Step}
+use Rattle.turn_lock.specs.declared.rule.Addition.{Addition}
+use Rattle.turn_lock.specs.declared.rule.View.{View}
+use Rattle.turn_lock.specs.Report.{Report, MayFollow}
+
+abbrev pub addition : ℕ → ℕ → ℕ → Addition
+addition report from until = record { report = report; from = from; until = until }
+
+-- so many numbers from one on
+abbrev pub run : ℕ → ℕ → List ℕ
+run from zero = []
+run from (suc n) = from ∷ run (from + 1) n
+
+-- the numbers of the reports
+abbrev pub numbers_of : List Addition → List ℕ
+numbers_of own = map (λ (a : Addition). a.report) own
+
+-- the places that were added
+abbrev pub places_of : List Addition → List ℕ
+places_of [] = []
+places_of (a ∷ own) = run a.from (a.until - a.from) ++ places_of own
+
+module _ {V : Type 0} where
+  -- the one seat of a new table, which stands for all passes
+  abbrev pub first_view : ℕ → V → View V
+  first_view passes opening = record { seen = opening ∷ []; also = []; own = []; tickets = []; turn = false; turns = 0; passes = passes }
+
+  abbrev pub with_ticket : View V → ℕ → View V
+  with_ticket v ticket = record { seen = v.seen; also = v.also; own = v.own; tickets = ticket ∷ []; turn = false; turns = v.turns + 1; passes = v.passes }
+
+  -- the seat has the turn, and has seen all values
+  abbrev pub at_turn : View V → List V → View V
+  at_turn v all = record { seen = all; also = v.also; own = v.own; tickets = v.tickets; turn = true; turns = v.turns; passes = v.passes }
+
+  abbrev pub with_value : View V → V → Addition → View V
+  with_value v value a = record { seen = v.seen ++ value ∷ []; also = v.also; own = v.own ++ a ∷ []; tickets = v.tickets; turn = v.turn; turns = v.turns; passes = v.passes }
+
+  abbrev pub without_ticket : View V → View V
+  without_ticket v = record { seen = v.seen; also = v.also; own = v.own; tickets = []; turn = false; turns = v.turns; passes = v.passes }
+
+  abbrev pub less_a_pass : View V → View V
+  less_a_pass v = record { seen = v.seen; also = v.also; own = v.own; tickets = v.tickets; turn = v.turn; turns = v.turns; passes = v.passes - 1 }
+
+  abbrev pub one_pass : View V → View V
+  one_pass v = record { seen = v.seen; also = v.also; own = []; tickets = []; turn = false; turns = 0; passes = 1 }
+
+  abbrev pub longer : List V → List V → List V
+  longer xs ys = if nat_le (length xs) (length ys) then ys else xs
+
+  abbrev pub both_views : View V → View V → View V
+  both_views v w = record { seen = longer v.seen w.seen; also = v.seen ∷ w.seen ∷ v.also ++ w.also; own = w.own ++ v.own; tickets = []; turn = false; turns = v.turns + w.turns; passes = v.passes + w.passes }
+
+  abbrev pub spent_view : View V
+  spent_view = record { seen = []; also = []; own = []; tickets = []; turn = false; turns = 0; passes = 0 }
+
+  -- What drawing a ticket tells: the number is the caller's ticket
+  abbrev pub Draws : Step (Option V) → Me (Option V) (View V) → ℕ → Me (Option V) (View V) → Type 0
+  Draws at before number after = after ≡ (with_ticket before.0 number, before.1)
+
+  -- What a step tells that changes no view
+  abbrev pub Stays : Step (Option V) → Me (Option V) (View V) → ℕ → Me (Option V) (View V) → Type 0
+  Stays at before number after = after ≡ before
+
+  -- What leaving tells: the value is back in its slot
+  abbrev pub Leaves : Step (Option V) → Me (Option V) (View V) → ℕ → Me (Option V) (View V) → Type 0
+  Leaves at before number after = after ≡ (without_ticket before.0, [])
+
+  module _ {I O : Type 0} (report : V → Report I) (origin : V → O) where
+    -- the seat has taken the value, the last of all, which may follow each value that the seat had seen
+    pub record Took (before after : Me (Option V) (View V)) : Type 0 where
+      pub earlier : List V
+      pub value : V
+      pub after_is : after ≡ (at_turn before.0 (earlier ++ value ∷ []), (0, Some value) ∷ [])
+      pub follows : All (λ v. MayFollow report origin v value) before.0.seen
+
+    -- What a look tells: the caller has the turn where the turn is its ticket, and else all is as before
+    abbrev pub Looks : Step (Option V) → Me (Option V) (View V) → ℕ → Me (Option V) (View V) → Type 0
+    Looks at before found after =
+        (before.0.tickets ≡ found ∷ [] → Took before after)
+        × (before.0.tickets ≢ found ∷ [] → after ≡ before)
+
+    -- What advancing tells, where the seat holds `value` and the last that it saw is `found`: the report's number is new, and the report and the places that it added are the caller's
+    abbrev pub Reported : Step (Option V) → Me (Option V) (View V) → ℕ → Me (Option V) (View V) → Type 0
+    Reported at before number after = (earlier : List V) (found value : V) → before.0.seen ≡ earlier ++ found ∷ [] → before.1 ≡ (0, Some value) ∷ []
+        → (after ≡ (with_value before.0 value (addition number (length (report found).items) (length (report value).items)), before.1)) × (1 ≤ number) × All (λ n. n < number) (numbers_of before.0.own)

@@ -1,0 +1,14 @@
+//! Why a lock is not made.
+use std::alloc::AllocError;
+use thiserror::Error;
+
+/// Memory ran out.
+#[derive(Clone, Copy, Debug, PartialEq, Eq, Error)]
+#[error("out of memory")]
+pub struct NoMemory;
+
+impl From<AllocError> for NoMemory {
+    fn from(_: AllocError) -> Self {
+        NoMemory
+    }
+}

@@ -1,0 +1,26 @@
+// A lock by turns for one value, whose holders know what came before them.
+// It promises the layer above that who takes the lock finds a value that follows all that its pass has seen, and that each
+// report and each place that was added is one pass's. The definitions are in specs/: Report, Locks, Rule, Ends.
+#![tactic(auto)]
+
+mod ends;
+mod faults;
+mod held;
+mod lends;
+mod lock;
+mod makes;
+mod numbers;
+mod pass;
+mod reports;
+mod rule;
+mod steps;
+#[cfg(test)]
+mod tests;
+
+pub use faults::NoMemory;
+pub use held::Held;
+pub use lock::TurnLock;
+pub use numbers::{Numbers, add, end};
+pub use pass::Pass;
+pub use reports::Reports;
+pub use rule::{Addition, ByTurns, Start, View};
