@@ -1,10 +1,12 @@
 //! What is measured: a case, what it does again and again, and what it answers after one time.
 ghost use Rattle.std.specs.Prelude.{◌≡◌, ◌<◌, length};
 
+use crate::locks::{mutexes, turns};
 use aes_ccm::{Aes128, Unsealed};
 use hkdf_sha256::{expand, extract};
 use seq_table::{Draw, Seat, SeqTable};
 use std::alloc::Global;
+use std::sync::Wait;
 
 const KEY: &[u8; 16] = b"\x00\x01\x02\x03\x04\x05\x06\x07\x08\x09\x0a\x0b\x0c\x0d\x0e\x0f";
 
@@ -40,16 +42,20 @@ pub enum Case {
     Key,
     Derive,
     Draw,
+    Turn,
+    Mutex,
 }
 
 impl Case {
-    pub const ALL: [Case; 6] = [
+    pub const ALL: [Case; 8] = [
         Case::Block,
         Case::Seal,
         Case::Unseal,
         Case::Key,
         Case::Derive,
         Case::Draw,
+        Case::Turn,
+        Case::Mutex,
     ];
 
     /// The case of this word.
@@ -61,6 +67,8 @@ impl Case {
             "key" => Some(Case::Key),
             "derive" => Some(Case::Derive),
             "draw" => Some(Case::Draw),
+            "turn" => Some(Case::Turn),
+            "mutex" => Some(Case::Mutex),
             _ => None,
         }
     }
@@ -73,11 +81,13 @@ impl Case {
             Case::Key => "key",
             Case::Derive => "derive",
             Case::Draw => "draw",
+            Case::Turn => "turn",
+            Case::Mutex => "mutex",
         }
     }
 
     /// Whether the answer after one time is the known one.
-    pub fn is_right(&self, alloc: Global) -> bool {
+    pub fn is_right<R: Wait>(&self, rt: &R, alloc: Global) -> bool {
         match self {
             Case::Block => blocks(1) == *ENCRYPTED,
             Case::Seal => seals(1) == *SEALING,
@@ -85,12 +95,14 @@ impl Case {
             Case::Key => keys(1) == *ENCRYPTED,
             Case::Derive => derives(1) == *DERIVED,
             Case::Draw => draws(alloc, 2) == Some(1),
+            Case::Turn => turns(rt, alloc, 2) == Some(2),
+            Case::Mutex => mutexes(rt, 2) == 2,
         }
     }
 
     /// Repeats the case, and tells whether its last answer is another than what it began with: each answer is used, so
     /// that the compiler leaves none out.
-    pub fn repeat(&self, alloc: Global, count: u64) -> bool {
+    pub fn repeat<R: Wait>(&self, rt: &R, alloc: Global, count: u64) -> bool {
         match self {
             Case::Block => blocks(count) != *BLOCK,
             Case::Seal => seals(count)[24..] != [0; 8],
@@ -98,6 +110,8 @@ impl Case {
             Case::Key => keys(count) != *BLOCK,
             Case::Derive => derives(count) != *KEY,
             Case::Draw => draws(alloc, count).is_some(),
+            Case::Turn => turns(rt, alloc, count).is_some_and(|held| held != 0),
+            Case::Mutex => mutexes(rt, count) != 0,
         }
     }
 }

@@ -4,11 +4,13 @@
 #![tactic(auto)]
 
 mod case;
+mod locks;
 mod status;
 
 use case::Case;
 use status::Status;
 use std::process::ExitCode;
+use std::sync::Wait;
 use std::time::Instant;
 use std::{env, io};
 
@@ -28,6 +30,8 @@ unseal    opens what `seal` makes
 key       expands a key, and encrypts a block under it
 derive    derives a key of 16 bytes from a secret
 draw      draws a sender sequence number
+turn      takes the lock by turns, and gives it back
+mutex     does the same with a mutex of the library
 ";
 
 const VERSION: &str = "registrar_bench 0.1.0\n";
@@ -49,11 +53,11 @@ fn tell(rt: &HostRuntime, text: &str) -> Status {
 }
 
 /// Compares an answer of each case, and prints a line for it.
-fn check(rt: &HostRuntime) -> Status {
+fn check<W: Wait>(rt: &HostRuntime, wait: &W) -> Status {
     let mut status = Status::Done;
     for case in &Case::ALL {
         let word = case.word();
-        let line = if case.is_right(rt.alloc()) {
+        let line = if case.is_right(wait, rt.alloc()) {
             println!(rt; "{word} right")
         } else {
             status = Status::Wrong;
@@ -67,11 +71,11 @@ fn check(rt: &HostRuntime) -> Status {
 }
 
 /// Repeats a case, and prints the time that it took.
-fn measure(rt: &HostRuntime, case: Case, count: u64) -> Status {
+fn measure<W: Wait>(rt: &HostRuntime, wait: &W, case: Case, count: u64) -> Status {
     let Ok(start) = Instant::now(rt) else {
         return Status::ClockFault;
     };
-    let answered = case.repeat(rt.alloc(), count);
+    let answered = case.repeat(wait, rt.alloc(), count);
     let Ok(time) = start.elapsed(rt) else {
         return Status::ClockFault;
     };
@@ -94,13 +98,13 @@ fn number_of(word: &str) -> Option<u64> {
     word.parse().ok()
 }
 
-fn status_of(rt: &HostRuntime, words: &[String]) -> Status {
+fn status_of<W: Wait>(rt: &HostRuntime, wait: &W, words: &[String]) -> Status {
     match words {
-        [] => check(rt),
+        [] => check(rt, wait),
         [word] if word.as_str() == "--help" => tell(rt, HELP),
         [word] if word.as_str() == "--version" => tell(rt, VERSION),
         [word, count] => match (Case::of(word.as_str()), number_of(count.as_str())) {
-            (Some(case), Some(count)) => measure(rt, case, count),
+            (Some(case), Some(count)) => measure(rt, wait, case, count),
             _ => Status::Usage,
         },
         _ => Status::Usage,
@@ -109,7 +113,7 @@ fn status_of(rt: &HostRuntime, words: &[String]) -> Status {
 
 fn main(rt: HostRuntime) -> ExitCode {
     let status = match words_of(&rt) {
-        Ok(words) => status_of(&rt, &words),
+        Ok(words) => status_of(&rt, &rt, &words),
         Err(error) if error.kind() == io::ErrorKind::OutOfMemory => Status::NoMemory,
         Err(_) => Status::Usage,
     };
