@@ -1,0 +1,9 @@
+pub mod Index
+pub mod Names
+pub mod Policy
+pub mod Reading
+pub mod Rows
+pub mod Shown
+pub mod Sound
+pub mod Values
+pub mod Verdicts
