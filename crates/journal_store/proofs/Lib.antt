@@ -1,0 +1,5 @@
+pub mod Areas
+pub mod Bodies
+pub mod Headers
+pub mod Unique
+pub mod Steps

@@ -1,0 +1,15 @@
+use Rattle.journal_store.proofs.Unique.{one_log, no_fault, formatted_is_empty}
+use Rattle.journal_store.proofs.Areas.{either}
+use Rattle.journal_store.proofs.laws.area_laws.Goals as goal
+
+pub returns-clause-one_log : goal.returns-clause-one_log
+returns-clause-one_log c = one_log
+
+pub returns-clause-no_fault_with_log : goal.returns-clause-no_fault_with_log
+returns-clause-no_fault_with_log c end log area spot is fault = no_fault end log area is spot fault
+
+pub returns-clause-formatted_is_empty : goal.returns-clause-formatted_is_empty
+returns-clause-formatted_is_empty c = formatted_is_empty
+
+pub returns-clause-without_or_with : goal.returns-clause-without_or_with
+returns-clause-without_or_with c = either

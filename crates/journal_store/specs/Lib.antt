@@ -1,0 +1,4 @@
+pub mod Area
+pub mod Fault
+pub mod Store
+pub mod Laws

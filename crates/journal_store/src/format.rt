@@ -1,0 +1,40 @@
+//! What formatting does to a disk.
+ghost use Rattle.std.specs.Prelude.{◌≡◌, ◌≤◌, [], IfOk, OnOk, IsTrue};
+ghost use Rattle.edge_traits.specs.Disk.{LeavesNoMore, LeavesOnly, Only};
+ghost use Rattle.edge_traits.specs.Faults.{HasCause};
+ghost use Rattle.journal_store.specs.Area.{formatted};
+ghost use Rattle.journal_store.specs.Fault as faults;
+
+use crate::area::EMPTY;
+use crate::device::put;
+use edge_traits::{Area, Disk, Failed};
+
+/// The left area's length where that isn't 0, else the right one's.
+pub fn first_length<D: Disk>(disk: &mut D) -> Result<u64, Failed>
+    ensures length { IsTrue (D.tells disk.old) → IfOk result (λ n. n ≡ faults.first_length (D.seen disk.old)) }
+    ensures seen { IsTrue (D.tells disk.old) → D.seen disk.new ≡ D.seen disk.old }
+    ensures crash { IsTrue (D.tells disk.old) → LeavesNoMore (D.may_leave disk.old) (D.may_leave disk.new) }
+    ensures any_moment { IsTrue (D.tells disk.old) → LeavesOnly D.moment D.left_since disk.old disk.new (D.may_leave disk.old) }
+    ensures tells { D.tells disk.new ≡ D.tells disk.old }
+    ensures cause { HasCause (D.fault_count disk.old) (D.fault_count disk.new) result }
+{
+    let left = disk.len(Area::Left)?;
+    if left > 0 {
+        return Ok(left);
+    }
+    disk.len(Area::Right)
+}
+
+/// Writes an empty journal into two empty areas, the right one first.
+pub fn write_empty<D: Disk>(disk: &mut D) -> Result<(), Failed>
+    requires left { IsTrue (D.tells disk.old) → (D.seen disk.old).left ≡ [] }
+    requires right { IsTrue (D.tells disk.old) → (D.seen disk.old).right ≡ [] }
+    ensures written { IsTrue (D.tells disk.old) → OnOk result (D.seen disk.new ≡ formatted) }
+    ensures durable { IsTrue (D.tells disk.old) → OnOk result (Only formatted (D.may_leave disk.new)) }
+    ensures later { IsTrue (D.tells disk.old) → D.moment disk.old ≤ D.moment disk.new }
+    ensures tells { D.tells disk.new ≡ D.tells disk.old }
+    ensures cause { HasCause (D.fault_count disk.old) (D.fault_count disk.new) result }
+{
+    put(disk, Area::Right, 0, &[0])?;
+    put(disk, Area::Left, 0, &EMPTY)
+}

@@ -1,0 +1,10 @@
+//! The laws of areas.
+ghost use Rattle.journal_store.specs.Laws.{OneLog, NoFaultWithLog, FormattedIsEmpty, WithoutOrWith};
+
+/// Does nothing. Its clauses are the laws.
+pub fn area_laws()
+    ensures one_log { OneLog }
+    ensures no_fault_with_log { NoFaultWithLog }
+    ensures formatted_is_empty { FormattedIsEmpty }
+    ensures without_or_with { WithoutOrWith }
+{}
