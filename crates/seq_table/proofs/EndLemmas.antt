@@ -9,11 +9,13 @@ use Rattle.std.proofs.lemmas.List.Kept.{AllPairs-cons}
 use Rattle.atomic_table.specs.Table.{State, Final, Seen}
 use Rattle.seq_table.specs.declared.rule.View.{View}
 use Rattle.seq_table.specs.Views.{numbers_of, both_views}
-use Rattle.seq_table.specs.Rule.{times, total, times_in, count_in, parts_of, IsKept}
+use Rattle.seq_table.specs.Rule.{times_in, count_in, parts_of, IsKept}
+use Rattle.seat_sums.specs.Counts.{times, total}
 use Rattle.seq_table.specs.Seats.{Table, SeatView, numbers_over, parts_over}
 use Rattle.seq_table.specs.Ends.{Gathers, EndsWith}
-use Rattle.seq_table.proofs.ListLemmas.{times-append, numbers_of-append, length-numbers_of, once_within-at_most_one, within_from_once, each_from_times}
-use Rattle.seq_table.proofs.Totals.{IsWithin, part_of_total, total-whole}
+use Rattle.seq_table.proofs.ListLemmas.{numbers_of-append, length-numbers_of}
+use Rattle.seat_sums.proofs.Times.{times-append, once_within-at_most_one, within_from_once, each_from_times}
+use Rattle.seat_sums.proofs.Sums.{IsWithin, part_of_total, total-whole}
 
 numbers_over-push : (context : ℕ) (xs : List SeatView) (y : SeatView) → numbers_over context (xs ++ y ∷ []) ≡ numbers_over context xs ++ numbers_of context y.drawn
 numbers_over-push context [] y = append-nil (numbers_of context y.drawn)

@@ -1,4 +1,3 @@
 pub mod ListLemmas
-pub mod Totals
 pub mod Steps
 pub mod EndLemmas

@@ -1,5 +1,5 @@
 -- Each step keeps the rule.
-use Rattle.std.proofs.Common.{◌≡◌, ◌≢◌, ℕ, ◌+◌, ◌*◌, ◌%◌, ◌^◌, ◌<◌, ◌≤◌, List, [], ◌∷◌, ◌++◌, All, length, set, cond, refl, sym, ap, ◌∙◌, subst, ⊎_elim, arith, length-append, length-set, get_or-set_same, get_or-set_other}
+use Rattle.std.proofs.Common.{◌≡◌, ◌≢◌, ℕ, ◌+◌, ◌*◌, ◌%◌, ◌^◌, ◌<◌, ◌≤◌, List, [], ◌∷◌, All, length, set, cond, refl, sym, ap, ◌∙◌, subst, ⊎_elim, arith, length-append, length-set, get_or-set_same, get_or-set_other}
 use Rattle.std.specs.Prelude.{◌==◌, slice_index}
 use mathlib.Core.Option.{some, none}
 use lib.ListN.{get_elem?}
@@ -10,9 +10,11 @@ use Rattle.atomic_table.specs.Table.{State, Me, step, Allows, Splits, Joins, kee
 use Rattle.atomic_table.proofs.Lists.{at_set, at_snoc}
 use Rattle.seq_table.specs.declared.rule.View.{View}
 use Rattle.seq_table.specs.Views.{numbers_of, drawn_from, with_number, less_a_split, split_off, both_views, spent_view, Draws}
-use Rattle.seq_table.specs.Rule.{times, total, times_in, count_in, once_within, parts_of, Fits, IsKept}
-use Rattle.seq_table.proofs.ListLemmas.{times-append, numbers_of-append, length-numbers_of, number_joins, number_elsewhere, once_within-more, within_from_once, each_from_times, times-one}
-use Rattle.seq_table.proofs.Totals.{total_set, total-append, part_of_total, total-le}
+use Rattle.seq_table.specs.Rule.{times_in, count_in, parts_of, Fits, IsKept}
+use Rattle.seat_sums.specs.Counts.{times, total, once_within}
+use Rattle.seq_table.proofs.ListLemmas.{numbers_of-append, length-numbers_of, number_joins, number_elsewhere}
+use Rattle.seat_sums.proofs.Times.{times-append, once_within-more, within_from_once, each_from_times, times-one}
+use Rattle.seat_sums.proofs.Sums.{total_set, total_split, total_join, part_of_total, total-le}
 
 module _ {S : Type 0} (bases : List ℕ) (s : State S View) (kept : IsKept bases s) where
   -- no word comes near 2^64
@@ -138,10 +140,6 @@ fits_all bases views id w each mine j v at =
     (λ (x : (j ≢ id) × (get_elem? views j ≡ some v)). each j v x.1)
     (at_set views id j w v at)
 
--- a view that drew nothing more, or as much as two did
-total_split : (f : View → ℕ) (views : List View) (id : ℕ) (v left right : View) → get_elem? views id ≡ some v → f left + f right ≡ f v → total f (set views id left ++ right ∷ []) ≡ total f views
-total_split f views id v left right at parts = omega (arith, total_set f views id v left at, total-append f (set views id left) (right ∷ []))
-
 pub splits : {S : Type 0} (bases : List ℕ) (id : ℕ) (v : View) → 0 < v.splits → 0 < v.seats → Splits {S = S} (IsKept bases) id v (less_a_split v) (split_off v)
 splits {S} bases id v left some_seat s kept at =
     let fits = kept.views id v at in
@@ -156,9 +154,6 @@ splits {S} bases id v left some_seat s kept at =
           (λ (new : split_off v ≡ u). subst (Fits bases) new (omega arith, λ _. fits.1 some_seat))
           (at_snoc (set s.views id (less_a_split v)) (split_off v) u j here);
     }
-
-total_join : (f : View → ℕ) (views : List View) (id other : ℕ) (v w both spent : View) → get_elem? views id ≡ some v → get_elem? (set views id both) other ≡ some w → f both + f spent ≡ f v + f w → total f (set (set views id both) other spent) ≡ total f views
-total_join f views id other v w both spent at there parts = omega (arith, total_set f views id v both at, total_set f (set views id both) other w spent there)
 
 times_in-both : (context x : ℕ) (v w : View) → times_in context x (both_views v w) + 0 ≡ times_in context x v + times_in context x w
 times_in-both context x v w = let joins = ap (times x) (numbers_of-append context v.drawn w.drawn) in omega (arith, times-append x (numbers_of context v.drawn) (numbers_of context w.drawn))

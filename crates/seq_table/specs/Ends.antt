@@ -1,7 +1,8 @@
 -- The end of a table, where seats are joined into one.
 use Rattle.std.specs.Prelude.{◌≡◌, ◌≢◌, ℕ, ◌+◌, ◌<◌, ◌≤◌, List, All, AllPairs, length, slice_index}
 use Rattle.seq_table.specs.declared.rule.View.{View}
-use Rattle.seq_table.specs.Rule.{times, times_in, count_in, parts_of}
+use Rattle.seq_table.specs.Rule.{times_in, count_in, parts_of}
+use Rattle.seat_sums.specs.Counts.{times}
 use Rattle.seq_table.specs.Seats.{SeatView, numbers_over, parts_over}
 
 -- the view has what all these seats drew, but for those that are left

@@ -1,20 +1,11 @@
 -- The rule of the table: what stands of its words and of all views between any two steps.
-use Rattle.std.specs.Prelude.{◌≡◌, ℕ, ◌+◌, ◌*◌, ◌^◌, ◌<◌, ◌≤◌, List, [], ◌∷◌, ◌==◌, ◌&&◌, if◌then◌else◌, All, length, slice_index, nat_le, nat_lt}
+use Rattle.std.specs.Prelude.{◌≡◌, ℕ, ◌+◌, ◌*◌, ◌^◌, ◌<◌, ◌≤◌, List, All, length, slice_index}
 use mathlib.Core.Option.{some}
 use lib.ListN.{get_elem?}
 use Rattle.atomic_table.specs.Table.{State}
+use Rattle.seat_sums.specs.Counts.{times, once_within, total}
 use Rattle.seq_table.specs.declared.rule.View.{View}
 use Rattle.seq_table.specs.Views.{numbers_of}
-
--- how often a number stands in a list
-abbrev pub times : ℕ → List ℕ → ℕ
-times number [] = 0
-times number (n ∷ ns) = (if n == number then 1 else 0) + times number ns
-
--- f of each view, added up
-abbrev pub total : (View → ℕ) → List View → ℕ
-total f [] = 0
-total f (v ∷ vs) = f v + total f vs
 
 -- how often a number of a context stands in a view
 abbrev pub times_in : ℕ → ℕ → View → ℕ
@@ -23,10 +14,6 @@ times_in context number v = times number (numbers_of context v.drawn)
 -- how many numbers of a context stand in a view
 abbrev pub count_in : ℕ → View → ℕ
 count_in context v = length (numbers_of context v.drawn)
-
--- 1 where the number is at least `from` and below `to`, else 0
-abbrev pub once_within : ℕ → ℕ → ℕ → ℕ
-once_within from to number = if nat_le from number && nat_lt number to then 1 else 0
 
 -- the seats that a view stands for, and those that it may still make
 abbrev pub parts_of : View → ℕ

@@ -12,10 +12,12 @@ use Rattle.turn_lock.specs.declared.rule.Addition.{Addition}
 use Rattle.turn_lock.specs.declared.rule.View.{View}
 use Rattle.turn_lock.specs.Report.{Report, MayFollow}
 use Rattle.turn_lock.specs.Views.{addition, run, numbers_of, places_of, with_value, Reported}
-use Rattle.turn_lock.specs.Rule.{times, once_within, total, ticket_times, ticket_count, number_times, number_count, place_times, turns_of, passes_of, IsSlot, IsAdded, Fits, Stands, IsKept}
+use Rattle.turn_lock.specs.Rule.{ticket_times, ticket_count, number_times, number_count, place_times, turns_of, passes_of, IsSlot, IsAdded, Fits, Stands, IsKept}
+use Rattle.seat_sums.specs.Counts.{times, once_within, total}
 use Rattle.turn_lock.specs.Seated.{IsLast}
-use Rattle.turn_lock.proofs.ListLemmas.{times-append, times-one, times-run, once_within-joins, within_from_once, each_from_times, numbers_of-append, places_of-append, prefix_self, prefix_more, snoc_same, Each-map, Each-append, here_after}
-use Rattle.turn_lock.proofs.Totals.{total_set, total_kept, part_of_total, total-le}
+use Rattle.turn_lock.proofs.ListLemmas.{times-one, times-run, numbers_of-append, places_of-append, prefix_self, prefix_more, snoc_same, Each-map, Each-append, here_after}
+use Rattle.seat_sums.proofs.Times.{times-append, once_within-joins, within_from_once, each_from_times}
+use Rattle.seat_sums.proofs.Sums.{total_set, total_kept, part_of_total, total-le}
 use Rattle.turn_lock.proofs.Growth.{growing_more, opening_to_last, added_more, added_now}
 use Rattle.turn_lock.proofs.Turns.{nobody_else}
 use Rattle.turn_lock.proofs.Words.{written, here, elsewhere}

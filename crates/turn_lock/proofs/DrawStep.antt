@@ -8,9 +8,11 @@ use Rattle.atomic_table.specs.Table.{Me, step, Allows, keeps, stepped}
 use Rattle.turn_lock.specs.declared.rule.View.{View}
 use Rattle.turn_lock.specs.Report.{Report}
 use Rattle.turn_lock.specs.Views.{with_ticket, Draws}
-use Rattle.turn_lock.specs.Rule.{times, ticket_times, ticket_count, number_times, number_count, place_times, turns_of, passes_of, Stands, IsKept}
-use Rattle.turn_lock.proofs.ListLemmas.{times-one, once_within-joins}
-use Rattle.turn_lock.proofs.Totals.{total_set, total_kept}
+use Rattle.turn_lock.specs.Rule.{ticket_times, ticket_count, number_times, number_count, place_times, turns_of, passes_of, Stands, IsKept}
+use Rattle.seat_sums.specs.Counts.{times}
+use Rattle.turn_lock.proofs.ListLemmas.{times-one}
+use Rattle.seat_sums.proofs.Times.{once_within-joins}
+use Rattle.seat_sums.proofs.Sums.{total_set, total_kept}
 use Rattle.turn_lock.proofs.Turns.{slot_kept, fits_set, ticket_bound, turn_bound}
 use Rattle.turn_lock.proofs.Words.{written, here, elsewhere}
 

@@ -9,11 +9,12 @@ use Rattle.turn_lock.specs.declared.rule.Addition.{Addition}
 use Rattle.turn_lock.specs.declared.rule.View.{View}
 use Rattle.turn_lock.specs.Report.{Report, GrowsTo, MayFollow}
 use Rattle.turn_lock.specs.Views.{numbers_of, places_of}
-use Rattle.turn_lock.specs.Rule.{times, once_within, total, Each, number_times, place_times, passes_of, IsSlot, IsGrowing, IsAdded, IsKept}
+use Rattle.turn_lock.specs.Rule.{Each, number_times, place_times, passes_of, IsSlot, IsGrowing, IsAdded, IsKept}
+use Rattle.seat_sums.specs.Counts.{times, once_within, total}
 use Rattle.turn_lock.specs.Locks.{PassView}
 use Rattle.turn_lock.specs.Ends.{own_over, places_over, Among, Gathers, EndsWith, IsReported}
 use Rattle.turn_lock.proofs.ListLemmas.{Each-front, Each-back, All_from_Each}
-use Rattle.turn_lock.proofs.Totals.{parts_of_total, total-whole}
+use Rattle.seat_sums.proofs.Sums.{parts_of_total, total-whole}
 use Rattle.turn_lock.proofs.Growth.{each_to_last, opening_to_last}
 use Rattle.std.proofs.lemmas.List.Elements.{All-nil, All-cons}
 

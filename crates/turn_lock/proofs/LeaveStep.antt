@@ -9,10 +9,12 @@ use Rattle.atomic_table.proofs.Lists.{at_set}
 use Rattle.turn_lock.specs.declared.rule.View.{View}
 use Rattle.turn_lock.specs.Report.{Report}
 use Rattle.turn_lock.specs.Views.{without_ticket, Leaves}
-use Rattle.turn_lock.specs.Rule.{times, ticket_times, ticket_count, number_times, number_count, place_times, turns_of, passes_of, IsSlot, Fits, Stands, IsKept}
+use Rattle.turn_lock.specs.Rule.{ticket_times, ticket_count, number_times, number_count, place_times, turns_of, passes_of, IsSlot, Fits, Stands, IsKept}
+use Rattle.seat_sums.specs.Counts.{times}
 use Rattle.turn_lock.specs.Seated.{IsLast}
-use Rattle.turn_lock.proofs.ListLemmas.{times-one, once_within-joins, snoc_same}
-use Rattle.turn_lock.proofs.Totals.{total_set, total_kept}
+use Rattle.turn_lock.proofs.ListLemmas.{times-one, snoc_same}
+use Rattle.seat_sums.proofs.Times.{once_within-joins}
+use Rattle.seat_sums.proofs.Sums.{total_set, total_kept}
 use Rattle.turn_lock.proofs.Turns.{nobody_else, ticket_bound, turn_below}
 use Rattle.turn_lock.proofs.Words.{written, here, elsewhere}
 

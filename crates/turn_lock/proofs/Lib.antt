@@ -1,5 +1,4 @@
 pub mod ListLemmas
-pub mod Totals
 pub mod Growth
 pub mod Turns
 pub mod Words

@@ -1,37 +1,19 @@
 -- How often a number stands in a list, beginnings of lists, and facts of each element.
-use Rattle.std.proofs.Common.{◌≡◌, ℕ, zero, suc, ◌+◌, ◌-◌, ◌<◌, ◌≤◌, cond, List, [], ◌∷◌, ◌++◌, All, length, set, refl, sym, ap, ◌∙◌, subst, arith, length-append, append_assoc}
+use Rattle.std.proofs.Common.{◌≡◌, ℕ, zero, suc, ◌+◌, ◌-◌, List, [], ◌∷◌, ◌++◌, All, length, set, refl, sym, ap, ◌∙◌, subst, arith, length-append, append_assoc}
 use mathlib.Core.List.{IsPrefix}
 use mathlib.Core.Option.{some, some-ne-none}
 use lib.ListN.{get_elem?}
-use Rattle.std.proofs.lemmas.Bool.{eq-eqb}
 use Rattle.std.proofs.lemmas.Bool.Decides.{nat_tests}
 use Rattle.std.proofs.lemmas.List.{map-append}
 use Rattle.std.proofs.lemmas.List.Elements.{All-nil, All-cons}
 use Rattle.turn_lock.specs.declared.rule.Addition.{Addition}
 use Rattle.turn_lock.specs.Views.{run, numbers_of, places_of}
-use Rattle.turn_lock.specs.Rule.{times, once_within, Each}
-
-pub times-append : (x : ℕ) (xs ys : List ℕ) → times x (xs ++ ys) ≡ times x xs + times x ys
-times-append x [] ys = omega arith
-times-append x (y ∷ xs) ys = omega (arith, times-append x xs ys)
-
-pub times-self : (x : ℕ) → times x (x ∷ []) ≡ 1
-times-self x = omega (arith, ap {B = ℕ} (λ b. cond b 1 0) (eq-eqb x x refl))
+use Rattle.turn_lock.specs.Rule.{Each}
+use Rattle.seat_sums.specs.Counts.{times, once_within}
+use Rattle.seat_sums.proofs.Times.{once_within-none, once_within-joins}
 
 pub times-one : (x n : ℕ) → times x (n ∷ []) ≡ once_within n (n + 1) x
 times-one x n = grind (arith, nat_tests)
-
-pub once_within-none : (from x : ℕ) → once_within from from x ≡ 0
-once_within-none from x = grind (arith, nat_tests)
-
-pub once_within-joins : (from mid to x : ℕ) → from ≤ mid → mid ≤ to → once_within from mid x + once_within mid to x ≡ once_within from to x
-once_within-joins from mid to x low high = grind (arith, nat_tests)
-
-pub once_within-at_most_one : (from to x : ℕ) → once_within from to x ≤ 1
-once_within-at_most_one from to x = grind (arith, nat_tests)
-
-pub within_from_once : (from to x : ℕ) → 0 < once_within from to x → (from ≤ x) × (x < to)
-within_from_once from to x some_time = grind (arith, nat_tests)
 
 pub times-run : (x from n : ℕ) → times x (run from n) ≡ once_within from (from + n) x
 times-run x from zero = let same : from + 0 ≡ from = omega arith in sym (ap (λ (to : ℕ). once_within from to x) same ∙ once_within-none from x)
@@ -42,14 +24,6 @@ times-run x from (suc n) =
     let same : from + 1 + n ≡ from + suc n = omega arith in
     let now : times x (run from (suc n)) ≡ once_within from (from + 1 + n) x = omega arith in
     now ∙ ap (λ (to : ℕ). once_within from to x) same
-
--- a number that stands in the list stands there at least once
-pub each_from_times : (P : ℕ → Type 0) (xs : List ℕ) → ((x : ℕ) → 0 < times x xs → P x) → All P xs
-each_from_times P [] h = All-nil P
-each_from_times P (y ∷ ys) h =
-    All-cons P y ys
-    (h y (omega (arith, ap {B = ℕ} (λ b. cond b 1 0) (eq-eqb y y refl))))
-    (each_from_times P ys (λ x some_time. h x (omega arith)))
 
 pub numbers_of-append : (xs ys : List Addition) → numbers_of (xs ++ ys) ≡ numbers_of xs ++ numbers_of ys
 numbers_of-append xs ys = map-append (λ (a : Addition). a.report) xs ys

@@ -11,7 +11,7 @@ use Rattle.turn_lock.specs.Report.{Report, MayFollow}
 use Rattle.turn_lock.specs.Views.{at_turn, Looks}
 use Rattle.turn_lock.specs.Rule.{ticket_times, ticket_count, number_times, number_count, place_times, turns_of, passes_of, IsSlot, Stands, IsKept}
 use Rattle.turn_lock.proofs.ListLemmas.{prefix_self, here_after, Each-prefix, All_from_Each}
-use Rattle.turn_lock.proofs.Totals.{total_kept}
+use Rattle.seat_sums.proofs.Sums.{total_kept}
 use Rattle.turn_lock.proofs.Growth.{each_to_last}
 use Rattle.turn_lock.proofs.Turns.{nobody_else, fits_set}
 use Rattle.turn_lock.proofs.Words.{written, here, elsewhere}

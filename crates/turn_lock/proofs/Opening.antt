@@ -8,7 +8,8 @@ use Rattle.turn_lock.specs.declared.rule.View.{View}
 use Rattle.turn_lock.specs.Report.{Report}
 use Rattle.turn_lock.specs.Views.{first_view}
 use Rattle.turn_lock.specs.Rule.{Fits, Stands, IsKept}
-use Rattle.turn_lock.proofs.ListLemmas.{once_within-none, prefix_self}
+use Rattle.turn_lock.proofs.ListLemmas.{prefix_self}
+use Rattle.seat_sums.proofs.Times.{once_within-none}
 
 only_one : {A : Type 0} (x y : A) (i : ℕ) → get_elem? (x ∷ []) i ≡ home.some y → x ≡ y
 only_one x y zero at = home.some-injective x y at

@@ -9,9 +9,11 @@ use Rattle.atomic_table.proofs.Lists.{at_set, at_snoc, at_longer}
 use Rattle.turn_lock.specs.declared.rule.View.{View}
 use Rattle.turn_lock.specs.Report.{Report}
 use Rattle.turn_lock.specs.Views.{numbers_of, places_of, less_a_pass, one_pass, longer, both_views, spent_view}
-use Rattle.turn_lock.specs.Rule.{times, ticket_times, ticket_count, number_times, number_count, place_times, turns_of, passes_of, IsSlot, IsAdded, Fits, IsKept}
-use Rattle.turn_lock.proofs.ListLemmas.{times-append, numbers_of-append, places_of-append, Each-append}
-use Rattle.turn_lock.proofs.Totals.{total_split, total_join}
+use Rattle.turn_lock.specs.Rule.{ticket_times, ticket_count, number_times, number_count, place_times, turns_of, passes_of, IsSlot, IsAdded, Fits, IsKept}
+use Rattle.seat_sums.specs.Counts.{times}
+use Rattle.turn_lock.proofs.ListLemmas.{numbers_of-append, places_of-append, Each-append}
+use Rattle.seat_sums.proofs.Times.{times-append}
+use Rattle.seat_sums.proofs.Sums.{total_split, total_join}
 use Rattle.turn_lock.proofs.Turns.{slot_kept, fits_set}
 
 pub longer_prefix : {X : Type 0} (xs ys all : List X) → IsPrefix xs all → IsPrefix ys all → IsPrefix (longer xs ys) all

@@ -6,9 +6,11 @@ use Rattle.std.proofs.lemmas.Bool.{cases_eq}
 use Rattle.atomic_table.proofs.Lists.{at_set, set_else}
 use Rattle.turn_lock.specs.declared.rule.View.{View}
 use Rattle.turn_lock.specs.Report.{Report}
-use Rattle.turn_lock.specs.Rule.{times, OnceEach, ticket_times, ticket_count, turns_of, passes_of, IsSlot, Fits, Stands}
-use Rattle.turn_lock.proofs.ListLemmas.{times-self, once_within-at_most_one, here_after}
-use Rattle.turn_lock.proofs.Totals.{part_of_total, parts_of_total, total-le}
+use Rattle.turn_lock.specs.Rule.{OnceEach, ticket_times, ticket_count, turns_of, passes_of, IsSlot, Fits, Stands}
+use Rattle.seat_sums.specs.Counts.{times}
+use Rattle.turn_lock.proofs.ListLemmas.{here_after}
+use Rattle.seat_sums.proofs.Times.{times-self, once_within-at_most_one}
+use Rattle.seat_sums.proofs.Sums.{part_of_total, parts_of_total, total-le}
 
 module _ {V : Type 0} where
   -- no two seats have one ticket

@@ -5,7 +5,8 @@ use Rattle.turn_lock.specs.declared.rule.Addition.{Addition}
 use Rattle.turn_lock.specs.declared.rule.View.{View}
 use Rattle.turn_lock.specs.Report.{Report}
 use Rattle.turn_lock.specs.Views.{numbers_of, places_of}
-use Rattle.turn_lock.specs.Rule.{times, once_within, Each, IsGrowing, IsAdded}
+use Rattle.turn_lock.specs.Rule.{Each, IsGrowing, IsAdded}
+use Rattle.seat_sums.specs.Counts.{times, once_within}
 use Rattle.turn_lock.specs.Locks.{PassView}
 
 -- what these passes own

@@ -1,23 +1,15 @@
 -- The rule of the lock: what stands of its words, its slot and all views between any two steps.
-use Rattle.std.specs.Prelude.{◌≡◌, ℕ, ◌+◌, ◌*◌, ◌^◌, ◌≤◌, true, false, List, [], ◌∷◌, ◌++◌, ◌==◌, ◌&&◌, if◌then◌else◌, Option, Some, length, slice_index, nat_le, nat_lt}
+use Rattle.std.specs.Prelude.{◌≡◌, ℕ, ◌+◌, ◌*◌, ◌^◌, ◌≤◌, true, false, List, [], ◌∷◌, ◌++◌, Option, Some, length, slice_index}
 use mathlib.Core.Option as home
 use mathlib.Core.List.{IsPrefix}
 use mathlib.Core.Logic.{◌⊎◌}
 use lib.ListN.{get_elem?}
 use Rattle.atomic_table.specs.Table.{State}
+use Rattle.seat_sums.specs.Counts.{times, once_within, total}
 use Rattle.turn_lock.specs.declared.rule.Addition.{Addition}
 use Rattle.turn_lock.specs.declared.rule.View.{View}
 use Rattle.turn_lock.specs.Report.{Report, MayFollow}
 use Rattle.turn_lock.specs.Views.{numbers_of, places_of}
-
--- how often a number stands in a list
-abbrev pub times : ℕ → List ℕ → ℕ
-times number [] = 0
-times number (n ∷ ns) = (if n == number then 1 else 0) + times number ns
-
--- 1 where the number is at least `from` and below `to`, else 0
-abbrev pub once_within : ℕ → ℕ → ℕ → ℕ
-once_within from to number = if nat_le from number && nat_lt number to then 1 else 0
 
 -- P of each element
 abbrev pub Each : {X : Type 0} → (X → Type 0) → List X → Type 0
@@ -25,11 +17,6 @@ Each P [] = Unit {0}
 Each P (x ∷ xs) = P x × Each P xs
 
 module _ {V : Type 0} where
-  -- f of each view, added up
-  abbrev pub total : (View V → ℕ) → List (View V) → ℕ
-  total f [] = 0
-  total f (v ∷ vs) = f v + total f vs
-
   abbrev pub ticket_times : ℕ → View V → ℕ
   ticket_times x v = times x v.tickets
 

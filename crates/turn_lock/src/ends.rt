@@ -1,7 +1,7 @@
 //! The end of a lock.
 ghost use Rattle.std.specs.Prelude.{◌≡◌, ℕ, ◌<◌, ◌≤◌, false, [], All, IfSome, IsSome, MatchOption, length};
 ghost use Rattle.turn_lock.specs.Report.{GrowsTo};
-ghost use Rattle.turn_lock.specs.Rule.{times, once_within};
+ghost use Rattle.seat_sums.specs.Counts.{times, once_within};
 ghost use Rattle.turn_lock.specs.Seated.{IsLaid, lock_of};
 ghost use Rattle.turn_lock.specs.Ends.{Gathers, EndsWith, IsReported, places_over};
 

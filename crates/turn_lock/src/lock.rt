@@ -1,7 +1,7 @@
 //! The lock.
 ghost use Rattle.std.specs.Prelude.{◌≡◌, ℕ, ◌≤◌, false, All, IfOk, IfErr, length, replicate};
 ghost use Rattle.turn_lock.specs.Report.{GrowsTo};
-ghost use Rattle.turn_lock.specs.Rule.{times, once_within};
+ghost use Rattle.seat_sums.specs.Counts.{times, once_within};
 ghost use Rattle.turn_lock.specs.Locks.{new_pass, with_turn};
 ghost use Rattle.turn_lock.specs.Ends.{IsReported, places_over};
 
