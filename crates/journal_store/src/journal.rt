@@ -172,6 +172,7 @@ impl<D: Disk> Journal<D> {
 
     /// Writes the pending batch again, whose gate is closed.
     pub fn again(&mut self) -> Written
+        requires pending { pending_of self.old ≢ [] }
         requires shut { IsTrue (D.tells (disk_of self.old))
             → (log : List Entry) × (entries : List Entry) × IsShut D.may_leave self.old log entries }
         requires room { end_of self.old < 2 ^ 63 }

@@ -1,7 +1,10 @@
 -- A batch that isn't settled stays pending.
-use Rattle.std.proofs.Common.{◌≢◌, [], refl}
+use Rattle.std.proofs.Common.{◌≢◌, [], refl, sym, ◌∙◌, inl}
 use Rattle.journal_store.specs.Store.{pending_of}
 use Rattle.journal_store.proofs.tests.settle.Goals as goal
+
+pub again-requires-clause-pending : goal.again-requires-clause-pending
+again-requires-clause-pending c none = let e = c.in-Again.ensures.nothing.1 (sym (c.in-Again.ensures.kept (inl refl)) ∙ none) in cc
 
 pub again-requires-clause-shut : goal.again-requires-clause-shut
 again-requires-clause-shut c told =
