@@ -1,5 +1,5 @@
 -- What the bytes of an area stand for: a header, open batches, and a closed gate at which the log ends.
-use Rattle.std.specs.Prelude.{◌≡◌, ◌≢◌, ◌≤◌, ◌+◌, ℕ, List, [], ◌∷◌, ◌++◌, length}
+use Rattle.std.specs.Prelude.{◌≡◌, ◌≢◌, ◌⊎◌, ◌≤◌, ◌+◌, ℕ, List, [], ◌∷◌, ◌++◌, length}
 use Rattle.std.specs.List.{flat_map, AllByRecursion}
 use Rattle.edge_traits.specs.Disk.{Areas}
 use Rattle.journal_text.specs.declared.entry.Entry.{Entry}
@@ -18,6 +18,10 @@ header =
 -- the areas of a journal without entries
 abbrev pub formatted : Areas
 formatted = record { left = header ++ 0 ∷ []; right = 0 ∷ [] }
+
+-- On the way from two empty areas to these the right one comes first, so a journal never stands beside an empty area.
+abbrev pub IsOnTheWay : Areas → Type 0
+IsOnTheWay image = (image.left ≡ []) ⊎ (image.right ≡ formatted.right)
 
 -- 1 to 4096 bytes of whole entries
 pub record IsBatch (entries : List Entry) : Type 0 where

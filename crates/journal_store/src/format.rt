@@ -2,8 +2,9 @@
 ghost use Rattle.std.specs.Prelude.{◌≡◌, ◌≤◌, [], IfOk, OnOk, IsTrue};
 ghost use Rattle.edge_traits.specs.Disk.{LeavesNoMore, LeavesOnly, Only};
 ghost use Rattle.edge_traits.specs.Faults.{HasCause};
-ghost use Rattle.journal_store.specs.Area.{formatted};
+ghost use Rattle.journal_store.specs.Area.{formatted, IsOnTheWay};
 ghost use Rattle.journal_store.specs.Fault as faults;
+ghost use Rattle.journal_store.specs.Store.{EachLeft};
 
 use crate::area::EMPTY;
 use crate::device::put;
@@ -31,6 +32,8 @@ pub fn write_empty<D: Disk>(disk: &mut D) -> Result<(), Failed>
     requires right { IsTrue (D.tells disk.old) → (D.seen disk.old).right ≡ [] }
     ensures written { IsTrue (D.tells disk.old) → OnOk result (D.seen disk.new ≡ formatted) }
     ensures durable { IsTrue (D.tells disk.old) → OnOk result (Only formatted (D.may_leave disk.new)) }
+    ensures order { IsTrue (D.tells disk.old) → EachLeft (D.may_leave disk.old) (λ left. left ≡ [])
+        → LeavesOnly D.moment D.left_since disk.old disk.new IsOnTheWay }
     ensures later { IsTrue (D.tells disk.old) → D.moment disk.old ≤ D.moment disk.new }
     ensures tells { D.tells disk.new ≡ D.tells disk.old }
     ensures cause { HasCause (D.fault_count disk.old) (D.fault_count disk.new) result }

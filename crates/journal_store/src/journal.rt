@@ -40,9 +40,9 @@ impl<D: Disk> Journal<D> {
     ghost use Rattle.journal_text.specs.Text.{entries_text};
     ghost use Rattle.journal_store.specs.declared.fault.Written.TheVariants as written;
     ghost use Rattle.journal_store.specs.declared.fault.Settled.TheVariants as settled;
-    ghost use Rattle.journal_store.specs.Area.{formatted, tail_text, IsBatch, IsLog};
+    ghost use Rattle.journal_store.specs.Area.{formatted, IsOnTheWay, tail_text, IsBatch, IsLog};
     ghost use Rattle.journal_store.specs.Fault.{HasFault, FormatCause, StartCause};
-    ghost use Rattle.journal_store.specs.Store.{disk_of, end_of, pending_of, reach_of, end_limit, disk_after, KeepsRight, HasEither, Stands, IsPending, IsShut};
+    ghost use Rattle.journal_store.specs.Store.{EachLeft, disk_of, end_of, pending_of, reach_of, end_limit, disk_after, KeepsRight, HasEither, Stands, IsPending, IsShut};
 
     /// Makes an empty journal of two empty areas. `AlreadyThere` comes exactly where one isn't empty, and then all stays.
     pub fn format(disk: &mut D) -> Result<(), StoreFault>
@@ -50,6 +50,8 @@ impl<D: Disk> Journal<D> {
         ensures written { IsTrue (D.tells disk.old) → OnOk result (D.seen disk.new ≡ formatted) }
         ensures durable { IsTrue (D.tells disk.old) → OnOk result (Only formatted (D.may_leave disk.new)) }
         ensures fault { IfErr result (FormatCause (D.tells disk.old) (D.seen disk.old) (D.fault_count disk.old) (D.fault_count disk.new)) }
+        ensures order { IsTrue (D.tells disk.old) → EachLeft (D.may_leave disk.old) (λ left. left ≡ [])
+            → LeavesOnly D.moment D.left_since disk.old disk.new IsOnTheWay }
         // What isn't empty stays.
         ensures kept { IsTrue (D.tells disk.old) → ((D.seen disk.old).left ≢ []) ⊎ ((D.seen disk.old).right ≢ [])
             → D.seen disk.new ≡ D.seen disk.old }
