@@ -3,9 +3,9 @@ ghost use Rattle.std.specs.Prelude.{◌≡◌, ◌↔◌, ◌<◌, ◌≤◌, �
 
 use crate::last::{Last, last_answer};
 use crate::room::Room;
-use crate::{due, legal, times};
+use crate::{due, leases, legal, times};
 use join_history::{Due, Want};
-use journal_text::Entry;
+use journal_text::{Entry, Settings};
 use std::alloc::{AllocError, Global};
 use thiserror::Error;
 
@@ -30,7 +30,9 @@ pub struct RegState {
 
 impl RegState {
     ghost use Rattle.journal_text.specs.declared.entry.Entry.{Entry};
+    ghost use Rattle.std.specs.Option.{option_copied};
     ghost use Rattle.join_history.specs.Times.{moment};
+    ghost use Rattle.join_history.specs.Leases.{current_settings};
     ghost use Rattle.join_history.specs.Decisions.{IsLastDecision};
     ghost use Rattle.join_history.specs.Legal.{MayFollow};
     ghost use Rattle.join_history.specs.Due.{IsWish, IsDue, IsAddable};
@@ -89,6 +91,13 @@ impl RegState {
             → MatchOption result ((e : Entry) → IsLastDecision h context e → ⊥) (IsLastAnswer h context) }
     {
         last_answer(&self.entries, context)
+    }
+
+    /// The settings in force.
+    pub fn settings(&self) -> Option<&Settings>
+        ensures { (h : List Entry) → StandsFor self.now h → option_copied result ≡ current_settings h }
+    {
+        leases::current_settings(&self.entries)
     }
 
     /// The moment of a decision that is made when the clock says `now`.

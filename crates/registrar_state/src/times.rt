@@ -26,9 +26,14 @@ pub fn time_of(entry: &Entry) -> Option<u64>
 pub fn last_time(entries: &[Entry]) -> u64
     ensures { result ≡ spec.last_time entries.now }
 {
-    entries
-        .iter()
-        .fold(0, |last, entry| time_of(entry).unwrap_or(last))
+    let mut rest = entries;
+    while let Some((entry, before)) = rest.split_last() {
+        if let Some(time) = time_of(entry) {
+            return time;
+        }
+        rest = before;
+    }
+    0
 }
 
 pub fn moment(entries: &[Entry], now: u64) -> u64

@@ -5,7 +5,7 @@ use Rattle.hex.specs.Hex.{encode_lower}
 use Rattle.join_history.specs.declared.due.Quiet.{Quiet}
 use Rattle.join_history.specs.declared.due.Quiet.TheVariants.{Taken, Old, Late}
 use Rattle.tool_text.specs.declared.outcome.Outcome.{Outcome}
-use Rattle.tool_text.specs.declared.outcome.Outcome.TheVariants.{Grant, Refuse, AgainGrant, AgainRefuse, Quiet as Silent}
+use Rattle.tool_text.specs.declared.outcome.Outcome.TheVariants.{Grant, Refuse, AgainGrant, AgainRefuse, Quiet as Silent, Unsure, Full}
 
 -- a short address in four hex digits
 abbrev pub address_text : ℕ → List ℕ
@@ -36,3 +36,5 @@ outcome_text (Refuse code) = codes "refuse " ++ code_text code ++ codes "\n"
 outcome_text (AgainGrant address until) = codes "again " ++ lease_text address until ++ codes "\n"
 outcome_text (AgainRefuse code) = codes "again " ++ code_text code ++ codes "\n"
 outcome_text (Silent why) = codes "quiet " ++ quiet_text why ++ codes "\n"
+outcome_text (Unsure faults) = codes "unsure " ++ decimal faults ++ codes "\n"
+outcome_text (Full entries) = codes "full " ++ decimal entries ++ codes "\n"

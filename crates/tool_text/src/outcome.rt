@@ -1,5 +1,5 @@
 //! What is printed for an outcome.
-ghost use Rattle.std.specs.Prelude.{◌≡◌, ◌≤◌, ◌++◌, ◌+◌, OnOk, OnErr, codes, length};
+ghost use Rattle.std.specs.Prelude.{◌≡◌, ◌≤◌, ◌++◌, ◌+◌, OnOk, OnErr, codes, decimal, length};
 ghost use Rattle.arrayvec.specs.ArrayVec.{array_vec_len};
 ghost use Rattle.edge_traits.specs.Faults.{HasCause};
 ghost use Rattle.edge_traits.specs.Sink.{Appends};
@@ -25,7 +25,14 @@ pub enum Outcome {
     AgainRefuse { code: u8 },
     /// The request gets no answer.
     Quiet(Quiet),
+    /// The disk failed, and this is its count of faults. The decision stands and is pending.
+    Unsure { faults: u64 },
+    /// An entry is due, and the log has this many entries and no room.
+    Full { entries: u32 },
 }
+
+/// The most digits of a number.
+const NUMBER_SIZE: usize = 20;
 
 /// The most bytes of a lease's text: four digits, a space, and twenty digits.
 const LEASE_SIZE: usize = 25;
@@ -51,6 +58,8 @@ fn text_of(outcome: &Outcome) -> ArrayVec<u8, TEXT_SIZE>
         Outcome::AgainGrant { address, until } => line(b"again ", lease(address, until).as_slice()),
         Outcome::AgainRefuse { code } => line(b"again ", &code_digits(code)),
         Outcome::Quiet(why) => line(b"quiet ", quiet_word(why)),
+        Outcome::Unsure { faults } => number_line(b"unsure ", faults),
+        Outcome::Full { entries } => number_line(b"full ", u64::from(entries)),
     }
 }
 
@@ -63,6 +72,14 @@ fn line(word: &[u8], rest: &[u8]) -> ArrayVec<u8, TEXT_SIZE>
     push(&mut text, rest);
     text.push(b'\n');
     text
+}
+
+fn number_line(word: &[u8], number: u64) -> ArrayVec<u8, TEXT_SIZE>
+    requires { length word.now + NUMBER_SIZE + 1 ≤ TEXT_SIZE }
+    ensures { result.items ≡ word.now ++ decimal number ++ codes "\n" }
+{
+    let mut buffer = Buffer::new();
+    line(word, buffer.format(number).as_bytes())
 }
 
 fn lease(address: u16, until: u64) -> ArrayVec<u8, LEASE_SIZE>

@@ -165,7 +165,7 @@ fn an_lf_ends_a_line_and_the_last_line_may_lack_it(rt: HostRuntime) {
     assert!(rt; next_line(b"").is_none());
 }
 
-fn texts() -> [(Outcome, &'static str); 10] {
+fn texts() -> [(Outcome, &'static str); 13] {
     [
         (
             Outcome::Grant {
@@ -195,6 +195,14 @@ fn texts() -> [(Outcome, &'static str); 10] {
         (Outcome::Quiet(Quiet::Taken), "quiet taken\n"),
         (Outcome::Quiet(Quiet::Old), "quiet old\n"),
         (Outcome::Quiet(Quiet::Late), "quiet late\n"),
+        (Outcome::Unsure { faults: 1 }, "unsure 1\n"),
+        (
+            Outcome::Unsure {
+                faults: 18446744073709551615,
+            },
+            "unsure 18446744073709551615\n",
+        ),
+        (Outcome::Full { entries: 262144 }, "full 262144\n"),
     ]
 }
 
