@@ -1,0 +1,4 @@
+pub mod Journals
+pub mod Books
+pub mod Opening
+pub mod Prepared

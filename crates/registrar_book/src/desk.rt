@@ -1,0 +1,76 @@
+//! What is decided: the state and its log, and how much of that is durable.
+ghost use Rattle.std.specs.Prelude.{◌≤◌, ◌+◌, vec_len, vec_capacity};
+ghost use Rattle.registrar_state.specs.State.{spare};
+
+use journal_text::Entry;
+use registrar_state::RegState;
+
+/// How many entries a log may have.
+pub const ENTRY_LIMIT: u32 = 262_144;
+
+#[derive(Drop)]
+pub struct Desk {
+    pub state: RegState,
+    pub log: Vec<Entry>,
+    /// How many entries of the log are durable.
+    pub durable: u32,
+    ghost room: { 262144 ≤ vec_len log + (spare state).entries },
+    ghost memory: { 262144 ≤ vec_capacity log },
+    ghost most: { vec_len log ≤ 262144 },
+}
+
+impl Desk {
+    ghost use Rattle.std.specs.Prelude.{◌≡◌, ◌<◌, ◌∷◌, ◌++◌, [], List, length};
+    ghost use Rattle.journal_text.specs.declared.entry.Entry.{Entry};
+    ghost use Rattle.join_history.specs.Contexts.{context_count};
+    ghost use Rattle.join_history.specs.Legal.{IsLegal};
+    ghost use Rattle.registrar_state.specs.Room.{HasRoomFor, TakesRoom};
+    ghost use Rattle.registrar_state.specs.State.{StandsFor, CanFollow};
+
+    /// The length of the log.
+    pub fn len(&self) -> u32
+        ensures { result ≡ length self.now.log.items }
+    {
+        self.log.len() as u32
+    }
+
+    /// Adds an entry to the state and to the log.
+    pub fn add(&mut self, entry: &Entry)
+        requires may_follow { CanFollow self.old.state entry.now }
+        requires room { HasRoomFor (spare self.old.state) entry.now }
+        requires space { length self.old.log.items < 262144 }
+        ensures stands { (h : List Entry) → StandsFor self.old.state h → StandsFor self.new.state (h ++ entry.now ∷ []) }
+        ensures log { self.new.log.items ≡ self.old.log.items ++ entry.now ∷ [] }
+        ensures durable { self.new.durable ≡ self.old.durable }
+        ensures room { TakesRoom (spare self.old.state) (spare self.new.state) entry.now }
+    {
+        self.state.apply(entry);
+        self.log.push_reserved(entry.clone().unwrap());
+    }
+
+    /// Adds these entries, one after another. All of the log is durable then.
+    pub fn add_all(&mut self, entries: &[Entry])
+        requires may_follow { (h : List Entry) × StandsFor self.old.state h × IsLegal (h ++ entries.now) }
+        requires contexts { context_count entries.now ≤ (spare self.old.state).contexts }
+        requires space { length self.old.log.items + length entries.now ≤ 262144 }
+        ensures stands { (h : List Entry) → StandsFor self.old.state h → StandsFor self.new.state (h ++ entries.now) }
+        ensures log { self.new.log.items ≡ self.old.log.items ++ entries.now }
+        ensures durable { self.new.durable ≡ length self.new.log.items }
+    {
+        let mut rest = entries;
+        while let Some((entry, after)) = rest.split_first() {
+            self.add(entry);
+            rest = after;
+        }
+        self.settled();
+    }
+
+    /// All of the log is durable.
+    pub fn settled(&mut self)
+        ensures state { self.new.state ≡ self.old.state }
+        ensures log { self.new.log ≡ self.old.log }
+        ensures durable { self.new.durable ≡ length self.new.log.items }
+    {
+        self.durable = self.len();
+    }
+}
