@@ -1,12 +1,12 @@
-// The program: standard streams and the words of the command line, handed to the top call.
+// The program: standard streams, the words of the command line and the journal's files, handed to the top call.
 // It promises its user the exit status and the text on standard error that the top call's status has. It proves nothing
 // of its own; the theorems are clauses of `registrar_tool::run`, and it has no definitions.
 #![tactic(auto)]
 
 mod absent;
 
-use absent::{NoDisk, NoInventory};
-use edge_real::{StdSink, StdSource};
+use absent::NoInventory;
+use edge_real::{FileDisk, OpenError, StdSink, StdSource};
 use registrar_tool::{Status, run};
 use std::process::ExitCode;
 use std::{env, io};
@@ -14,12 +14,17 @@ use std::{env, io};
 const HELP: &str = "\
 registrar: the join registrar of a 6TiSCH mesh
 
+registrar init
+    makes an empty journal of the files journal.0 and journal.1
 registrar decide FIRST COUNT HOURS
-    decides the lines `ask TIME ID NUMBER` on standard input, in memory: FIRST and COUNT are the pool of short
-    addresses, HOURS is the lease time
+    decides the lines `ask TIME ID NUMBER` on standard input, each durable in the journal before its outcome is
+    written: FIRST and COUNT are the pool of short addresses, HOURS is the lease time
 registrar --help
 registrar --version
 ";
+
+/// The journal is `journal.0` and `journal.1` in the folder where the program runs.
+const JOURNAL: &str = "journal";
 
 const VERSION: &str = "registrar 0.1.0\n";
 
@@ -40,18 +45,29 @@ fn tell(rt: &HostRuntime, text: &str) -> Status {
     }
 }
 
+/// Runs the words over the standard streams and the journal's two files.
+fn run_words(rt: &HostRuntime, words: &[String]) -> Status {
+    let disk = match FileDisk::at(*rt, JOURNAL) {
+        Ok(disk) => disk,
+        Err(OpenError::Failed) => return Status::DiskFault(1),
+        Err(OpenError::NoMemory) => return Status::NoMemory,
+    };
+    let (_disk, status) = run(
+        rt.alloc(),
+        words,
+        &mut NoInventory,
+        &mut StdSource::new(rt),
+        &mut StdSink::new(*rt),
+        disk,
+    );
+    status
+}
+
 fn status_of(rt: &HostRuntime, words: &[String]) -> Status {
     match words {
         [word] if word.as_str() == "--help" => tell(rt, HELP),
         [word] if word.as_str() == "--version" => tell(rt, VERSION),
-        _ => run(
-            rt.alloc(),
-            words,
-            &mut NoInventory,
-            &mut StdSource::new(rt),
-            &mut StdSink::new(*rt),
-            &mut NoDisk::new(),
-        ),
+        _ => run_words(rt, words),
     }
 }
 

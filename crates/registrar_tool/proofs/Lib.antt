@@ -1,6 +1,7 @@
-mod ScriptLemmas
-mod WordsLemmas
-mod OpeningLemmas
-mod ReadyLemmas
-mod RunLemmas
-mod ListedLemmas
+pub mod WordsLemmas
+pub mod ScriptLemmas
+pub mod ListedLemmas
+pub mod ContextLemmas
+pub mod AnswerLemmas
+pub mod RunLemmas
+pub mod StartLemmas

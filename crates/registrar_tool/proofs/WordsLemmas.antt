@@ -1,8 +1,16 @@
 -- Lemmas about the words of the program.
-use Rattle.std.proofs.Common.{◌≡◌, ◌<◌, ◌≤◌, ℕ, List, [], ◌∷◌, Option, Some, None, length, get_or, arith, codes, subst}
-use Rattle.std.specs.Prelude.{IfSome, IfNone}
+use Rattle.std.proofs.Common.{◌≡◌, ◌<◌, ◌≤◌, ℕ, List, [], ◌∷◌, Option, Some, None, length, get_or, arith, codes, sym, ◌∙◌, subst}
+use Rattle.std.specs.Prelude.{IfSome, IfNone, is_some}
 use Rattle.journal_text.specs.declared.settings.Settings.{Settings}
-use Rattle.registrar_tool.specs.Words.{AreSettings, IsDecide}
+use Rattle.registrar_tool.specs.declared.words.Command.{Command}
+use Rattle.registrar_tool.specs.declared.words.Command.TheVariants.{Init, Decide}
+use Rattle.registrar_tool.specs.Words.{AreSettings, IsDecide, IsInit, IsCommand}
+
+-- a list of one is its item
+pub one : {X : Type 0} (xs : List X) (a : X) → 1 ≤ length xs → length xs < 2 → a ≡ get_or xs 0 a → xs ≡ a ∷ []
+one [] a long short first = absurd (omega arith)
+one (x ∷ []) a long short first = cc
+one (x ∷ y ∷ xs) a long short first = absurd (omega arith)
 
 -- a list of four is its four items
 pub four : {X : Type 0} (xs : List X) (a b c d : X) → 4 ≤ length xs → length xs < 5 → a ≡ get_or xs 0 a
@@ -32,3 +40,23 @@ module _ (words : List (List ℕ)) (first count hours : List ℕ) (are : words �
       (subst (λ c. AreSettings first c decide.2 settings) two
       (subst (λ f. AreSettings f decide.1 decide.2 settings) one decide.4)))
   IsDecide-none (Some settings) none = tt
+
+-- words that are `init` aren't `decide`
+pub not_both : (words : List (List ℕ)) (settings : Settings) → IsInit words → IsDecide words settings → ⊥
+not_both words settings init decide =
+    let same : codes "init" ∷ [] ≡ codes "decide" ∷ decide.0 ∷ decide.1 ∷ decide.2 ∷ [] = sym init ∙ decide.3 in cc
+
+-- words that are neither are no command
+pub IsCommand-none : (words : List (List ℕ)) → (IsInit words → ⊥) → ((settings : Settings) → IsDecide words settings → ⊥)
+    → (command : Command) → IsCommand words command → ⊥
+IsCommand-none words no_init no_decide Init is = no_init is
+IsCommand-none words no_init no_decide (Decide settings) is = no_decide settings is
+
+-- where there are no settings there is no command
+pub IsCommand-unread : (words : List (List ℕ)) (read : Option Settings) (command : Option Command)
+    → is_some command ≡ is_some read → (IsInit words → ⊥)
+    → IfNone read ((settings : Settings) → IsDecide words settings → ⊥)
+    → IfNone command ((other : Command) → IsCommand words other → ⊥)
+IsCommand-unread words None None same no_init no_decide = IsCommand-none words no_init no_decide
+IsCommand-unread words (Some settings) None same no_init no_decide = absurd (cc same)
+IsCommand-unread words read (Some command) same no_init no_decide = tt

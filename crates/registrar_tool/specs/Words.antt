@@ -2,6 +2,8 @@
 use Rattle.std.specs.Prelude.{◌≡◌, ◌+◌, ◌≤◌, ℕ, List, [], ◌∷◌, None, codes, length}
 use Rattle.std.specs.Str.Parse.{AllDigits, digits_value}
 use Rattle.journal_text.specs.declared.settings.Settings.{Settings}
+use Rattle.registrar_tool.specs.declared.words.Command.{Command}
+use Rattle.registrar_tool.specs.declared.words.Command.TheVariants.{Init, Decide}
 
 -- one to twenty decimal digits spell the number
 pub record IsNumber (word : List ℕ) (number : ℕ) : Type 0 where
@@ -28,3 +30,12 @@ pub record AreSettings (first count hours : List ℕ) (settings : Settings) : Ty
 abbrev pub IsDecide : List (List ℕ) → Settings → Type 0
 IsDecide words settings = (first count hours : List ℕ)
     × (words ≡ codes "decide" ∷ first ∷ count ∷ hours ∷ []) × AreSettings first count hours settings
+
+-- the one word is `init`
+abbrev pub IsInit : List (List ℕ) → Type 0
+IsInit words = words ≡ codes "init" ∷ []
+
+-- the words ask for this
+abbrev pub IsCommand : List (List ℕ) → Command → Type 0
+IsCommand words Init = IsInit words
+IsCommand words (Decide settings) = IsDecide words settings

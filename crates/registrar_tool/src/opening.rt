@@ -1,17 +1,10 @@
-//! What a run opens with: the identifiers of its lines, and the settings of its words.
-ghost use Rattle.std.specs.Prelude.{◌≡◌, ◌≢◌, ◌≤◌, ◌<◌, ◌+◌, ◌^◌, [], ℕ, Some, List, IfOk, OnOk, AllPairs, length, map};
-ghost use Rattle.journal_text.specs.declared.entry.Entry.{Entry};
-ghost use Rattle.join_history.specs.Leases.{current_settings};
-ghost use Rattle.join_history.specs.Legal.{IsInRange};
-ghost use Rattle.join_history.specs.Opening.{EnrollsRows, IsOpened};
-ghost use Rattle.registrar_state.specs.State.{StandsFor, spare};
+//! What a run opens with: the identifiers of its lines, each with its check.
+ghost use Rattle.std.specs.Prelude.{◌≡◌, ◌≢◌, ◌≤◌, ◌+◌, [], List, IfOk, OnOk, AllPairs, length, map};
 ghost use Rattle.registrar_tool.specs.Script.{ListsOnce, ask_count};
 ghost use Rattle.registrar_tool.specs.Told.{decide_check, decide_row};
-ghost use Rattle.registrar_tool.specs.Opened.{AddsOnce, AreEnrolled, HasNoContexts};
+ghost use Rattle.registrar_tool.specs.Opened.{AddsOnce};
 
 use edge_traits::PledgeId;
-use journal_text::{Entry, Settings};
-use registrar_state::{NoMemory, RegState};
 use std::alloc::{AllocError, Global};
 use tool_text::Line;
 
@@ -52,43 +45,18 @@ fn check_of(id: PledgeId) -> [u8; 32]
     check
 }
 
-/// Enrolls each identifier in a context of its own, in order.
-fn enroll_all(state: &mut RegState, ids: &[PledgeId])
-    requires distinct { AllPairs (λ p q. p ≢ q) ids.now }
-    requires few { length ids.now ≤ 32768 }
-    requires none { (h : List Entry) × StandsFor state.old h × HasNoContexts h }
-    requires room { length ids.now ≤ (spare state.old).contexts }
-    ensures enrolled { (g : List Entry) → StandsFor state.old g → HasNoContexts g
-        → (h : List Entry) × EnrollsRows g (map decide_row ids.now) h × StandsFor state.new h × AreEnrolled h ids.now
-        × (current_settings h ≡ current_settings g) }
-    ensures room { (spare state.new).entries ≡ (spare state.old).entries }
-{
-    for (context, id) in ids.iter().enumerate() {
-        state.apply(&Entry::Enroll {
-            context: context as u32,
-            id: *id,
-            check: check_of(*id),
-        });
-    }
-}
-
-/// The empty history, opened with the settings and the identifiers, and with room for so many entries more.
-pub(crate) fn open(
+/// The rows that `decide` opens with.
+pub(crate) fn rows_of(
     alloc: Global,
-    settings: Settings,
     ids: &[PledgeId],
-    room: u32,
-) -> Result<RegState, NoMemory>
-    requires distinct { AllPairs (λ p q. p ≢ q) ids.now }
-    requires few { length ids.now ≤ 32768 }
-    requires settings { IsInRange settings }
-    requires room { room + 1 < 2 ^ 32 }
-    ensures opened { IfOk result (λ state. (h : List Entry) × IsOpened [] 0 settings (map decide_row ids.now) h
-        × StandsFor state h × AreEnrolled h ids.now × (current_settings h ≡ Some settings)) }
-    ensures room { IfOk result (λ state. (spare state).entries ≡ room) }
+) -> Result<Vec<(PledgeId, [u8; 32])>, AllocError>
+    ensures { IfOk result (λ rows. rows.items ≡ map decide_row ids.now) }
 {
-    let mut state = RegState::empty(alloc, ids.len() as u32, room + 1)?;
-    state.apply(&Entry::Settings { time: 0, settings });
-    enroll_all(&mut state, ids);
-    Ok(state)
+    let mut rows = Vec::new(alloc);
+    let mut rest = ids;
+    while let [id, after @ ..] = rest {
+        rows.push((*id, check_of(*id)))?;
+        rest = after;
+    }
+    Ok(rows)
 }

@@ -10,8 +10,8 @@ use edge_traits::Source;
 use std::alloc::{AllocError, Global};
 use tool_text::{Line, next_line, read_line};
 
-/// The most bytes of a script.
-const LIMIT: usize = 65_536;
+/// The most bytes of a script: 16 MiB.
+const LIMIT: usize = 16_777_216;
 
 /// How many bytes are asked for at a time.
 const PIECE: usize = 4096;
@@ -39,7 +39,7 @@ pub(crate) fn read_script<T: Source>(alloc: Global, source: &mut T) -> Result<Ve
     ensures read { IfOk result (λ bytes. IsRead script_limit (T.left source.old) (T.left source.new) bytes.items) }
     ensures fault { IsErrOf result ReadError.Fault → Rose (T.fault_count source.old) (T.fault_count source.new) }
 {
-    let mut bytes = Vec::with_capacity(alloc, LIMIT + 1)?;
+    let mut bytes = Vec::new(alloc);
     let mut piece = [0; PIECE];
     while bytes.len() <= LIMIT {
         let room = PIECE.min(LIMIT + 1 - bytes.len());

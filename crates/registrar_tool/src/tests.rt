@@ -1,6 +1,9 @@
-//! Whole runs of `decide` over memory, with outcomes worked out by hand from the rules.
+//! Whole runs over memory, with outcomes worked out by hand from the rules.
 use crate::{Status, run};
 use edge_memory::{MemDisk, MemSink, MemSource};
+use edge_traits::{Area, Disk, PledgeId};
+use journal_store::{Journal, Spot};
+use journal_text::Entry;
 use std::alloc::{AllocError, Global};
 use std::test::Fail;
 
@@ -8,6 +11,12 @@ use std::test::Fail;
 type Failing<'a> = (&'a [u64], &'a [u64]);
 
 const SOUND: Failing<'static> = (&[], &[]);
+
+/// An empty journal: the header, with generation 1 and the summary of no history behind its length, and a closed gate.
+const EMPTY: [u8; 43] =
+    *b"\x01\x36\x54\x4a\x52\x43\x2d\x31\x00\x00\x00\x00\x00\x00\x00\x01\x00\x00\x00\x16\
+    \x00\x00\x00\x00\x00\x00\x00\x00\x00\x00\x00\x00\x00\x00\x00\x00\x00\x00\x00\x00\x00\x00\
+    \x00";
 
 fn words_of(alloc: Global, line: &str) -> Result<Vec<String>, AllocError> {
     let mut words = Vec::new(alloc);
@@ -17,27 +26,74 @@ fn words_of(alloc: Global, line: &str) -> Result<Vec<String>, AllocError> {
     Ok(words)
 }
 
-/// The status and the written bytes of a run.
+/// What a run leaves: its disk, its status, and the bytes that it wrote.
+type Ran = (MemDisk, Status, Vec<u8>);
+
+fn run_on(
+    alloc: Global,
+    words: &str,
+    script: &[u8],
+    failing: Failing<'_>,
+    disk: MemDisk,
+) -> Result<Ran, Fail> {
+    let words = words_of(alloc, words)?;
+    let mut inventory = MemSource::new(alloc, &[], &[])?;
+    let mut source = MemSource::new(alloc, script, failing.0)?;
+    let mut sink = MemSink::new(alloc, failing.1, 4096)?;
+    let (disk, status) = run(alloc, &words, &mut inventory, &mut source, &mut sink, disk);
+    Ok((disk, status, sink.written().to_vec(alloc)?))
+}
+
+/// A disk with this left area, whose calls of these numbers fail.
+fn disk_of(alloc: Global, left: &[u8], failing: &[u64]) -> Result<MemDisk, Fail> {
+    Ok(MemDisk::new(alloc, left, b"\x00", failing, 256, 4096)?)
+}
+
+/// The status and the written bytes of a run over an empty journal.
 fn run_over(
     alloc: Global,
     words: &str,
     script: &[u8],
     failing: Failing<'_>,
 ) -> Result<(Status, Vec<u8>), Fail> {
-    let words = words_of(alloc, words)?;
-    let mut inventory = MemSource::new(alloc, &[], &[])?;
-    let mut source = MemSource::new(alloc, script, failing.0)?;
-    let mut sink = MemSink::new(alloc, failing.1, 4096)?;
-    let mut disk = MemDisk::new(alloc, &[], &[], &[], 0, 0)?;
-    let status = run(
-        alloc,
-        &words,
-        &mut inventory,
-        &mut source,
-        &mut sink,
-        &mut disk,
-    );
-    Ok((status, sink.written().to_vec(alloc)?))
+    let disk = disk_of(alloc, &EMPTY, &[])?;
+    let (_, status, written) = run_on(alloc, words, script, failing, disk)?;
+    Ok((status, written))
+}
+
+fn content(alloc: Global, disk: &mut MemDisk, area: Area) -> Result<Vec<u8>, Fail> {
+    let len = disk.len(area)?;
+    let mut bytes = vec![in alloc; 0; len as usize]?;
+    disk.read_at(area, 0, &mut bytes)?;
+    Ok(bytes)
+}
+
+#[test]
+fn an_empty_journal_is_made_once(rt: HostRuntime) -> Result<(), Fail> {
+    let alloc = rt.alloc();
+    let disk = MemDisk::new(alloc, b"", b"", &[], 64, 256)?;
+    let (mut disk, status, written) = run_on(alloc, "init", b"", SOUND, disk)?;
+    assert_eq!(rt; status, Status::Done);
+    assert_eq!(rt; written.as_slice(), b"formatted\n".as_slice());
+    let left = content(alloc, &mut disk, Area::Left)?;
+    assert_eq!(rt; left.as_slice(), EMPTY.as_slice());
+    let (mut disk, status, written) = run_on(alloc, "init", b"", SOUND, disk)?;
+    assert_eq!(rt; status, Status::AlreadyThere(43));
+    assert_eq!(rt; written.len(), 0);
+    let right = content(alloc, &mut disk, Area::Right)?;
+    assert_eq!(rt; right.as_slice(), b"\x00".as_slice());
+    Ok(())
+}
+
+#[test]
+fn a_disk_without_a_journal_is_told(rt: HostRuntime) -> Result<(), Fail> {
+    let alloc = rt.alloc();
+    let script = b"ask 0 00000000000000a1 0\n";
+    let disk = MemDisk::new(alloc, b"", b"", &[], 64, 256)?;
+    let (_, status, written) = run_on(alloc, "decide 1 2 24", script, SOUND, disk)?;
+    assert_eq!(rt; status, Status::NotAJournal(Spot::Place(0)));
+    assert_eq!(rt; written.len(), 0);
+    Ok(())
 }
 
 /// Each run: its words, its script and what it writes.
@@ -180,7 +236,10 @@ fn long_script(alloc: Global, length: usize) -> Result<Vec<u8>, AllocError> {
 
 #[test]
 fn a_line_past_the_limit_is_wrong(rt: HostRuntime) -> Result<(), Fail> {
-    for (length, expected) in [(65_536, Status::Done), (65_537, Status::BadScript(2))] {
+    for (length, expected) in [
+        (16_777_216, Status::Done),
+        (16_777_217, Status::BadScript(2)),
+    ] {
         let script = long_script(rt.alloc(), length)?;
         let (status, written) = run_over(rt.alloc(), "decide 1 1 1", &script, SOUND)?;
         assert_eq!(rt; status, expected);
@@ -189,6 +248,180 @@ fn a_line_past_the_limit_is_wrong(rt: HostRuntime) -> Result<(), Fail> {
     Ok(())
 }
 
+/// The calls of a run that grants one lease on an empty journal.
+const GRANT_CALLS: u64 = 11;
+
+// The Grant's batch is written by the last four calls: its body, a sync, its gate, a sync.
+#[test]
+fn each_image_of_a_grant_has_it_or_not(rt: HostRuntime) -> Result<(), Fail> {
+    let alloc = rt.alloc();
+    let script = b"ask 100 00000000000000a1 0\n";
+    let disk = disk_of(alloc, &EMPTY, &[])?;
+    let (disk, status, written) = run_on(alloc, "decide 1 2 24", script, SOUND, disk)?;
+    assert_eq!(rt; status, Status::Done);
+    assert_eq!(rt; written.as_slice(), b"grant 0001 86500\n".as_slice());
+    for moment in 0..GRANT_CALLS + 1 {
+        for pick in 0..4 {
+            let image = disk.image(alloc, moment, pick)?;
+            let (_, status, written) = run_on(alloc, "decide 1 2 24", script, SOUND, image)?;
+            assert_eq!(rt; status, Status::Done, "at {moment}");
+            let anew = written.as_slice() == b"grant 0001 86500\n".as_slice();
+            let again = written.as_slice() == b"again 0001 86500\n".as_slice();
+            assert!(rt; anew || again, "at {moment}");
+            assert!(rt; anew || moment + 1 >= GRANT_CALLS, "at {moment}");
+            assert!(rt; again || moment < GRANT_CALLS, "at {moment}");
+        }
+    }
+    Ok(())
+}
+
+const WINDOW_SCRIPT: &[u8] =
+    b"ask 0 00000000000000a1 40\nask 1 00000000000000a1 8\nask 2 00000000000000a1 9\nask 3 00000000000000a1 40\nask 4 00000000000000a1 9\n";
+
+const WINDOW_OUTCOMES: [&[u8]; 5] = [
+    b"grant 0001 86400",
+    b"quiet old",
+    b"grant 0001 86402",
+    b"quiet taken",
+    b"again 0001 86402",
+];
+
+// The last sync of the first Grant's batch fails; the next line settles it.
+#[test]
+fn an_unsure_decision_stands(rt: HostRuntime) -> Result<(), Fail> {
+    let alloc = rt.alloc();
+    let disk = disk_of(alloc, &EMPTY, &[GRANT_CALLS - 1])?;
+    let (disk, status, written) = run_on(alloc, "decide 1 2 24", WINDOW_SCRIPT, SOUND, disk)?;
+    assert_eq!(rt; status, Status::Done);
+    assert_eq!(rt;
+        written.as_slice(),
+        b"unsure 1\nquiet old\ngrant 0001 86402\nquiet taken\nagain 0001 86402\n".as_slice()
+    );
+    let Ok((_, log)) = Journal::start(alloc, disk) else {
+        return Err("no journal")?;
+    };
+    assert_eq!(rt; numbers_of(alloc, &log)?.as_slice(), [40, 9].as_slice());
+    Ok(())
+}
+
+/// The numbers that were granted, in order.
+fn numbers_of(alloc: Global, log: &[Entry]) -> Result<Vec<u64>, AllocError> {
+    let mut numbers = Vec::new(alloc);
+    for entry in log {
+        if let Entry::Grant { number, .. } = entry {
+            numbers.push(*number)?;
+        }
+    }
+    Ok(numbers)
+}
+
+/// Whether each line is the outcome of the history, or unsure with one fault.
+fn tells_the_history(written: &[u8]) -> bool {
+    let mut lines = written.split(|byte| *byte == b'\n');
+    for outcome in WINDOW_OUTCOMES {
+        let Some(line) = lines.next() else {
+            return false;
+        };
+        if line != outcome && line != b"unsure 1".as_slice() {
+            return false;
+        }
+    }
+    true
+}
+
+#[test]
+fn each_call_of_the_disk_may_fail(rt: HostRuntime) -> Result<(), Fail> {
+    let alloc = rt.alloc();
+    for failing in 0..GRANT_CALLS + 4 {
+        let disk = disk_of(alloc, &EMPTY, &[failing])?;
+        let (disk, status, written) = run_on(alloc, "decide 1 2 24", WINDOW_SCRIPT, SOUND, disk)?;
+        if status == Status::DiskFault(1) {
+            assert_eq!(rt; written.len(), 0, "at {failing}");
+        } else {
+            assert_eq!(rt; status, Status::Done, "at {failing}");
+            assert!(rt; tells_the_history(&written), "at {failing}");
+        }
+        let Ok((_, log)) = Journal::start(alloc, disk) else {
+            return Err("no journal")?;
+        };
+        let numbers = numbers_of(alloc, &log)?;
+        let granted = numbers.as_slice() == [40, 9].as_slice();
+        assert!(rt; granted || status == Status::DiskFault(1), "at {failing}");
+    }
+    Ok(())
+}
+
+/// A journal with a context of the first pledge's check under another pledge.
+const OTHER_PLEDGE: [u8; 93] =
+    *b"\x01\x36\x54\x4a\x52\x43\x2d\x31\x00\x00\x00\x00\x00\x00\x00\x01\x00\x00\x00\x16\
+    \x00\x00\x00\x00\x00\x00\x00\x00\x00\x00\x00\x00\x00\x00\x00\x00\x00\x00\x00\x00\x00\x00\
+    \x01\x00\x00\x00\x2d\x02\x00\x00\x00\x00\x00\x00\x00\x00\x00\x00\x00\xa2\
+    \x00\x00\x00\x00\x00\x00\x00\xa1\x00\x00\x00\x00\x00\x00\x00\x00\x00\x00\x00\x00\x00\x00\x00\x00\
+    \x00\x00\x00\x00\x00\x00\x00\x00\x00";
+
+#[test]
+fn a_key_of_another_pledge_is_told(rt: HostRuntime) -> Result<(), Fail> {
+    let alloc = rt.alloc();
+    let disk = disk_of(alloc, &OTHER_PLEDGE, &[])?;
+    let script = b"ask 0 00000000000000a1 0\n";
+    let (mut disk, status, written) = run_on(alloc, "decide 1 2 24", script, SOUND, disk)?;
+    assert_eq!(rt;
+        status,
+        Status::SameKey(PledgeId([0, 0, 0, 0, 0, 0, 0, 0xa2]), FIRST_ID)
+    );
+    assert_eq!(rt; written.len(), 0);
+    let left = content(alloc, &mut disk, Area::Left)?;
+    assert_eq!(rt; left.as_slice(), OTHER_PLEDGE.as_slice());
+    Ok(())
+}
+
+/// The Settings of `decide 1 2 24` at time 0.
+const SETTINGS: [u8; 17] = *b"\x01\x00\x00\x00\x00\x00\x00\x00\x00\x00\x01\x00\x02\x00\x18\x00\x00";
+
+/// Adds a batch of so many of these Settings.
+fn push_batch(area: &mut Vec<u8>, count: u8) -> Result<(), AllocError> {
+    area.push(1)?;
+    area.extend_from_slice(&(17 * u32::from(count)).to_be_bytes())?;
+    for _ in 0..count {
+        area.extend_from_slice(&SETTINGS)?;
+    }
+    Ok(())
+}
+
+/// A left area whose log has 262,080 of these Settings and so many more.
+fn long_log(alloc: Global, more: u8) -> Result<Vec<u8>, AllocError> {
+    let mut area = Vec::with_capacity(alloc, 5_000_000)?;
+    area.extend_from_slice(&EMPTY[..42])?;
+    for _ in 0..1092 {
+        push_batch(&mut area, 240)?;
+    }
+    push_batch(&mut area, more)?;
+    area.push(0)?;
+    Ok(area)
+}
+
+#[test]
+fn a_full_log_is_told(rt: HostRuntime) -> Result<(), Fail> {
+    let alloc = rt.alloc();
+    let script = b"ask 0 00000000000000a1 0\n";
+    let cases = [
+        (63, Status::Done, "full 262144\n"),
+        (64, Status::JournalFull(262_145), ""),
+    ];
+    for (more, expected, text) in cases {
+        let area = long_log(alloc, more)?;
+        let disk = disk_of(alloc, &area, &[])?;
+        let (_, status, written) = run_on(alloc, "decide 1 2 24", script, SOUND, disk)?;
+        assert_eq!(rt; status, expected);
+        assert_eq!(rt; written.as_slice(), text.as_bytes());
+    }
+    Ok(())
+}
+
+const FIRST_ID: PledgeId = PledgeId([0, 0, 0, 0, 0, 0, 0, 0xa1]);
+
+const SECOND_ID: PledgeId = PledgeId([0x01, 0x23, 0x45, 0x67, 0x89, 0xab, 0xcd, 0xef]);
+
 #[test]
 fn statuses_have_their_numbers_and_texts(rt: HostRuntime) -> Result<(), Fail> {
     let all = [
@@ -196,12 +429,41 @@ fn statuses_have_their_numbers_and_texts(rt: HostRuntime) -> Result<(), Fail> {
         (Status::Usage, 2, "usage"),
         (Status::ReadFault(7), 3, "read fault"),
         (Status::WriteFault(7), 4, "write fault"),
+        (Status::DiskFault(7), 5, "disk fault"),
         (Status::BadScript(7), 7, "bad script line 7"),
+        (Status::NotAJournal(Spot::Place(7)), 8, "not a journal"),
+        (Status::AlreadyThere(7), 9, "already there"),
+        (
+            Status::SameKey(FIRST_ID, SECOND_ID),
+            10,
+            "same key 00000000000000a1 0123456789abcdef",
+        ),
         (Status::NoMemory, 12, "no memory"),
+        (Status::JournalFull(262_145), 14, "journal full"),
+        (Status::ContextsFull(32_769), 15, "contexts full"),
     ];
     for (status, number, text) in all {
         assert_eq!(rt; status.number(), number);
         assert_eq!(rt; status.to_string(rt.alloc())?.as_str(), text);
     }
+    Ok(())
+}
+
+/// One request of each of so many pledges.
+fn many_pledges(alloc: Global, count: u32) -> Result<Vec<u8>, Fail> {
+    let mut script = Vec::new(alloc);
+    for id in 0..count {
+        let line = format!(in alloc; "ask 0 {id:016x} 0\n")?;
+        script.extend_from_slice(line.as_bytes())?;
+    }
+    Ok(script)
+}
+
+#[test]
+fn more_pledges_than_contexts_are_told(rt: HostRuntime) -> Result<(), Fail> {
+    let script = many_pledges(rt.alloc(), 32_769)?;
+    let (status, written) = run_over(rt.alloc(), "decide 1 1 1", &script, SOUND)?;
+    assert_eq!(rt; status, Status::ContextsFull(32_769));
+    assert_eq!(rt; written.len(), 0);
     Ok(())
 }

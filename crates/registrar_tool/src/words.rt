@@ -1,11 +1,21 @@
 //! The words of the program.
-ghost use Rattle.std.specs.Prelude.{◌≡◌, ◌^◌, ◌<◌, ℕ, IfSome, IfNone, map, string_bytes};
+ghost use Rattle.std.specs.Prelude.{◌≡◌, ◌↔◌, ◌^◌, ◌<◌, ℕ, IfSome, IfNone, IsTrue, map, string_bytes};
 ghost use Rattle.journal_text.specs.declared.settings.Settings.{Settings};
-ghost use Rattle.registrar_tool.specs.Words.{IsNumber, AreSettings, IsDecide};
+ghost use Rattle.registrar_tool.specs.declared.words.Command.{Command};
+ghost use Rattle.registrar_tool.specs.Words.{IsNumber, AreSettings, IsDecide, IsInit, IsCommand};
 
 use arrayvec::ArrayVec;
 use journal_text::Settings;
 use registrar_state::POOL_END;
+
+/// What the words ask for.
+#[derive(Debug, Drop)]
+pub(crate) enum Command {
+    /// `init`: an empty journal.
+    Init,
+    /// `decide`: decisions under these settings.
+    Decide(Settings),
+}
 
 /// The most digits of a number among the words.
 const MOST_DIGITS: usize = 20;
@@ -49,7 +59,7 @@ fn read_settings(first: &str, count: &str, hours: &str) -> Option<Settings>
 }
 
 /// The settings that the words `decide first count hours` give; `None` for all other words.
-pub(crate) fn read_words(words: &[String]) -> Option<Settings>
+fn read_decide(words: &[String]) -> Option<Settings>
     ensures found { IfSome result (λ settings. IsDecide (map string_bytes words.now) settings) }
     ensures none { IfNone result ((settings : Settings) → IsDecide (map string_bytes words.now) settings → ⊥) }
 {
@@ -60,4 +70,25 @@ pub(crate) fn read_words(words: &[String]) -> Option<Settings>
         return None;
     }
     read_settings(first.as_str(), count.as_str(), hours.as_str())
+}
+
+/// Whether there is the one word `init`.
+fn is_init(words: &[String]) -> bool
+    ensures { IsTrue result ↔ IsInit (map string_bytes words.now) }
+{
+    let [command] = words else {
+        return false;
+    };
+    command.as_str() == "init"
+}
+
+/// What the words ask for: `init`, or `decide first count hours`; `None` for all other words.
+pub(crate) fn read_words(words: &[String]) -> Option<Command>
+    ensures found { IfSome result (IsCommand (map string_bytes words.now)) }
+    ensures none { IfNone result ((command : Command) → IsCommand (map string_bytes words.now) command → ⊥) }
+{
+    if is_init(words) {
+        return Some(Command::Init);
+    }
+    read_decide(words).map(Command::Decide)
 }

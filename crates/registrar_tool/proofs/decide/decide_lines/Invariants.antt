@@ -1,17 +1,18 @@
-use Rattle.std.proofs.Common.{◌≤◌, List, length}
-use Rattle.journal_text.specs.declared.entry.Entry.{Entry}
-use Rattle.registrar_state.specs.State.{StandsFor, spare}
-use Rattle.registrar_tool.specs.Opened.{IsReady, AreAskable}
+use Rattle.std.proofs.Common.{◌≤◌, length}
+use Rattle.registrar_book.specs.Books.{book_disk}
+use Rattle.registrar_tool.specs.Told.{AreMoments}
+use Rattle.registrar_tool.specs.Opened.{IsReady, AreAskable, standing_of}
 use Rattle.registrar_tool.proofs.RunLemmas.{AreDoneBefore}
 use Rattle.registrar_tool.proofs.decide.decide_lines.Given as goal
 
 abbrev pub invariant-loop-line : goal.invariant-loop-line
 invariant-loop-line g l = record {
-  done : (h : List Entry) → StandsFor l.fn.state h → IsReady h l.ids
-      → AreDoneBefore h l.lines l.rest (g.K.Sink.written l.fn.out) (g.K.Sink.written l.out) l.state l.ids;
+  done : AreDoneBefore g.D.Disk (standing_of l.initial.book) l.lines l.rest (g.K.Sink.written l.initial.out) (g.K.Sink.written l.out) (standing_of l.book);
+  moments : AreMoments g.D.Disk (standing_of l.initial.book) (standing_of l.book);
   askable : AreAskable l.ids l.rest;
-  room : length l.rest ≤ (spare l.state).entries;
-  later : g.K.Sink.fault_count l.fn.out ≤ g.K.Sink.fault_count l.out;
+  ready : IsReady l.book l.ids l.contexts;
+  later : g.K.Sink.fault_count l.initial.out ≤ g.K.Sink.fault_count l.out;
+  counted : g.D.Disk.fault_count (book_disk l.initial.book) ≤ g.D.Disk.fault_count (book_disk l.book);
 }
 
 abbrev pub decreases-loop-line : goal.decreases-loop-line
