@@ -9,7 +9,8 @@ use Rattle.join_history.specs.Contexts.{context_count}
 use Rattle.join_history.specs.Legal.{IsLegal}
 use Rattle.join_history.specs.Opening.{EnrollsRows}
 use Rattle.join_history.proofs.LegalLemmas.{IsLegal-push}
-use Rattle.registrar_book.specs.Opening.{Row, known_of, Knows, PlacesRows, enrolls}
+use Rattle.registrar_book.specs.Opening.{Row, HaveSameKey, HasTooManyContexts}
+use Rattle.registrar_book.specs.Known.{HaveKnownKey, known_of, Knows, PlacesRows, enrolls}
 use Rattle.registrar_book.proofs.Contexts.{context_count-push}
 
 pub known_of-append : (h g : List Entry) → known_of (h ++ g) ≡ known_of h ++ known_of g
@@ -85,7 +86,7 @@ pub record Enrolls (h : List Entry) (rows new : List Row) : Type 0 where
   pub fresh : List Row
   pub parts : new ≡ known_of h ++ fresh
   pub enrolls_rows : EnrollsRows h rows (h ++ enrolls (context_count h) fresh)
-  pub legal : IsLegal (h ++ enrolls (context_count h) fresh)
+  pub legal : IsLegal h → length new ≤ 32768 → IsLegal (h ++ enrolls (context_count h) fresh)
 
 -- one row is enrolled as the next context
 next : List Entry → Row → List Entry
@@ -104,29 +105,67 @@ unfolding next
 legal_next h row legal few unknown =
     IsLegal-push h (Enroll (context_count h) row.0 row.1) legal (refl, few, λ has. unknown (has.1, enrolled_known h has.0 has.1 row.1 has.2))
 
-pub enroll_rows : (h : List Entry) (rows new : List Row) → IsLegal h → PlacesRows (known_of h) rows new → length new ≤ 32768 → Enrolls h rows new
+pub enroll_rows : (h : List Entry) (rows new : List Row) → PlacesRows (known_of h) rows new → Enrolls h rows new
 unfolding next
-enroll_rows h [] new legal is few = record {
+enroll_rows h [] new is = record {
   fresh = [];
   parts = is ∙ sym (append-nil (known_of h));
   enrolls_rows = append-nil h;
-  legal = subst IsLegal (sym (append-nil h)) legal;
+  legal = λ legal few. subst IsLegal (sym (append-nil h)) legal;
 }
-enroll_rows h (row ∷ rows) new legal (between, inl has, rest) few =
+enroll_rows h (row ∷ rows) new (between, inl has, rest) =
     let known = subst (λ (k : List Row). PlacesRows k rows new) has.1 rest in
-    let more = enroll_rows h rows new legal known few in
+    let more = enroll_rows h rows new known in
     let found = known_enrolled h row has.0 in
     record { fresh = more.fresh; parts = more.parts; enrolls_rows = inl (found.0, found.1, more.enrolls_rows); legal = more.legal }
-enroll_rows h (row ∷ rows) new legal (between, inr has, rest) few =
+enroll_rows h (row ∷ rows) new (between, inr has, rest) =
     let known = subst (λ (k : List Row). PlacesRows k rows new) (has.1 ∙ sym (known_next h row)) rest in
-    let long = placed_longer (known_of (next h row)) rows new known in
-    let count : context_count h < 32768 = omega (arith, long, few, known_count (next h row), count_next h row) in
-    let more = enroll_rows (next h row) rows new (legal_next h row legal count has.0) known few in
+    let more = enroll_rows (next h row) rows new known in
     let same : next h row ++ enrolls (context_count (next h row)) more.fresh ≡ h ++ enrolls (context_count h) (row ∷ more.fresh)
     = ap (λ (n : ℕ). next h row ++ enrolls n more.fresh) (count_next h row) ∙ append_assoc h (Enroll (context_count h) row.0 row.1 ∷ []) (enrolls (context_count h + 1) more.fresh) in
     record {
       fresh = row ∷ more.fresh;
       parts = more.parts ∙ ap (λ (k : List Row). k ++ more.fresh) (known_next h row) ∙ append_assoc (known_of h) (row ∷ []) more.fresh;
       enrolls_rows = inr (λ check. has.0 (check.1, enrolled_known h check.0 check.1 row.1 check.2), subst (λ (l : List Entry). EnrollsRows (next h row) rows l) same more.enrolls_rows);
-      legal = subst IsLegal same more.legal;
+      legal = λ legal few.
+          let long = placed_longer (known_of (next h row)) rows new known in
+          let count : context_count h < 32768 = omega (arith, long, few, known_count (next h row), count_next h row) in
+          subst IsLegal same (more.legal (legal_next h row legal count has.0) few);
+    }
+
+known_enrolls : (context : ℕ) (rows : List Row) → known_of (enrolls context rows) ≡ rows
+known_enrolls context [] = refl
+known_enrolls context (row ∷ rows) = ap (λ (l : List Row). row ∷ l) (known_enrolls (context + 1) rows)
+
+-- the contexts of the history with those of the rows
+pub known_after : (h : List Entry) (rows new : List Row) (all : Enrolls h rows new) → known_of (h ++ enrolls (context_count h) all.fresh) ≡ new
+known_after h rows new all =
+    known_of-append h (enrolls (context_count h) all.fresh) ∙ ap (λ (l : List Row). known_of h ++ l) (known_enrolls (context_count h) all.fresh) ∙ sym all.parts
+
+-- a check that is known under another pledge is that of another pledge's context
+pub same_key : (log : List Entry) (rows : List Row) (p q : PledgeId) → HaveKnownKey (known_of log) rows p q → HaveSameKey log rows p q
+same_key log rows p q same =
+    let all = enroll_rows log same.before same.between same.placed in
+    let h = log ++ enrolls (context_count log) all.fresh in
+    let found = known_enrolled h (p, same.check) (subst (λ (k : List Row). Contains k (p, same.check)) (sym (known_after log same.before same.between all)) same.found) in
+    record {
+      before = same.before;
+      check = same.check;
+      after = same.after;
+      between = h;
+      context = found.0;
+      parts = same.parts;
+      enrolled = all.enrolls_rows;
+      found = found.1;
+      other = same.other;
+    }
+
+pub too_many_contexts : (log : List Entry) (rows new : List Row) (count : ℕ) → PlacesRows (known_of log) rows new → count ≡ length new → 32768 < count → HasTooManyContexts log rows count
+too_many_contexts log rows new count placed is many =
+    let all = enroll_rows log rows new placed in
+    record {
+      history = log ++ enrolls (context_count log) all.fresh;
+      enrolled = all.enrolls_rows;
+      is = is ∙ sym (ap length (known_after log rows new all)) ∙ known_count (log ++ enrolls (context_count log) all.fresh);
+      many = many;
     }

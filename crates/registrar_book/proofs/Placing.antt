@@ -5,7 +5,8 @@ use Rattle.std.specs.List.{AllZip}
 use Rattle.edge_traits.specs.declared.names.PledgeId.{PledgeId}
 use Rattle.registrar_book.specs.declared.answers.OpenFault.{OpenFault}
 use Rattle.registrar_book.specs.declared.answers.OpenFault.TheVariants.{Disk, NotAJournal, SameKey, ContextsFull, JournalFull, NoMemory}
-use Rattle.registrar_book.specs.Opening.{Row, PlacesRow, PlacesRows, IsRowAt, IsSameKey, RowsCause}
+use Rattle.registrar_book.specs.Opening.{Row}
+use Rattle.registrar_book.specs.Known.{PlacesRow, PlacesRows, IsRowAt, IsSameKey, RowsCause}
 
 zip_push : {A B : Type 0} (R : A → B → Type 0) (xs : List A) (ys : List B) (x : A) (y : B) → AllZip R xs ys → R x y → AllZip R (xs ++ x ∷ []) (ys ++ y ∷ [])
 zip_push R [] [] x y all one = (one, tt)

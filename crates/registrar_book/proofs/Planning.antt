@@ -19,9 +19,10 @@ use Rattle.join_history.specs.Opening.{AddsSettings, EnrollsRows, IsOpened}
 use Rattle.join_history.proofs.LegalLemmas.{IsLegal-push, legal_induction}
 use Rattle.join_history.proofs.TimeLemmas.{last_time-lt, IsTimely-moment}
 use Rattle.registrar_book.specs.Journals.{size_limit, sizes_of, AreSmall}
-use Rattle.registrar_book.specs.Opening.{Row, known_of, PlacesRows, IsRowAt, HasContext, enrolls, first_entries, opening_time, IsNewSettings, IsPlan, HasTooManyEntries}
+use Rattle.registrar_book.specs.Opening.{Row, HasContext, opening_time, HasTooManyEntries}
+use Rattle.registrar_book.specs.Known.{known_of, PlacesRows, IsRowAt, enrolls, first_entries, IsNewSettings, IsPlan}
 use Rattle.registrar_book.proofs.Placing.{zip_map}
-use Rattle.registrar_book.proofs.Enrolling.{known_of-append, known_count, enroll_rows}
+use Rattle.registrar_book.proofs.Enrolling.{known_of-append, known_count, enroll_rows, known_after}
 
 -- ---- sizes
 
@@ -156,17 +157,13 @@ pub record Opens (log : List Entry) (settings : Settings) (rows : List Row) (now
   pub legal : IsLegal (log ++ entries)
   pub known_is : known_of (log ++ entries) ≡ known
 
-known_enrolls : (context : ℕ) (rows : List Row) → known_of (enrolls context rows) ≡ rows
-known_enrolls context [] = refl
-known_enrolls context (row ∷ rows) = ap (λ (l : List Row). row ∷ l) (known_enrolls (context + 1) rows)
-
 pub opens : (log : List Entry) (settings : Settings) (rows : List Row) (now : Option ℕ) (first : Option Entry) (known : List Row) (entries : List Entry) → IsLegal log → IsInRange settings
     → MatchOption first (current_settings log ≡ Some settings) (IsNewSettings log settings now) → PlacesRows (known_of log) rows known → length known ≤ 32768
     → entries ≡ first_entries first ++ enrolls (length (known_of log)) (drop (length (known_of log)) known) → Opens log settings rows now entries known
 opens log settings rows now first known entries legal range new placed few is =
     let starts = starts_with log settings now first legal range new in
     let h = log ++ first_entries first in
-    let all = enroll_rows h rows known starts.legal (subst (λ (k : List Row). PlacesRows k rows known) (sym starts.known) placed) few in
+    let all = enroll_rows h rows known (subst (λ (k : List Row). PlacesRows k rows known) (sym starts.known) placed) in
     let parts : known ≡ known_of log ++ all.fresh = all.parts ∙ ap (λ (k : List Row). k ++ all.fresh) starts.known in
     let fresh : drop (length (known_of log)) known ≡ all.fresh = ap (drop (length (known_of log))) parts ∙ drop-append_seam (known_of log) all.fresh in
     let count : context_count h ≡ length (known_of log) = sym (known_count h) ∙ ap length starts.known in
@@ -175,8 +172,8 @@ opens log settings rows now first known entries legal range new placed few is =
     ∙ append_assoc log (first_entries first) (enrolls (length (known_of log)) (drop (length (known_of log)) known)) ∙ ap (λ (l : List Entry). log ++ l) (sym is) in
     record {
       opened = (h, starts.adds, subst (λ (l : List Entry). EnrollsRows h rows l) same all.enrolls_rows);
-      legal = subst IsLegal same all.legal;
-      known_is = ap known_of (sym same) ∙ known_of-append h (enrolls (context_count h) all.fresh) ∙ ap (λ (l : List Row). known_of h ++ l) (known_enrolls (context_count h) all.fresh) ∙ sym all.parts;
+      legal = subst IsLegal same (all.legal starts.legal few);
+      known_is = ap known_of (sym same) ∙ known_after h rows known all;
     }
 
 pub have_contexts : (h : List Entry) (rows : List Row) (contexts : List ℕ) → IsLegal h → AllZip (IsRowAt (known_of h)) rows contexts → AllZip (HasContext h) rows contexts

@@ -1,4 +1,5 @@
 pub mod Journals
 pub mod Books
 pub mod Opening
+pub mod Known
 pub mod Prepared

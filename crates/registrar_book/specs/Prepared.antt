@@ -5,7 +5,8 @@ use Rattle.journal_text.specs.declared.entry.Entry.{Entry}
 use Rattle.join_history.specs.Contexts.{context_count}
 use Rattle.registrar_state.specs.State.{StandsFor, spare}
 use Rattle.registrar_book.specs.declared.opening.Prepared.{Prepared}
-use Rattle.registrar_book.specs.Opening.{Row, IsPlan}
+use Rattle.registrar_book.specs.Opening.{Row}
+use Rattle.registrar_book.specs.Known.{IsPlan}
 
 -- the desk stands for the log and has room for the plan
 pub record IsPrepared (log : List Entry) (settings : Settings) (rows : List Row) (now : Option ℕ) (prepared : Prepared) : Type 0 where

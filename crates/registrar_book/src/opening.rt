@@ -4,7 +4,8 @@ ghost use Rattle.journal_text.specs.declared.entry.Entry.{Entry};
 ghost use Rattle.join_history.specs.Leases.{current_settings};
 ghost use Rattle.join_history.specs.Legal.{IsLegal, IsInRange};
 ghost use Rattle.registrar_state.specs.State.{StandsFor};
-ghost use Rattle.registrar_book.specs.Opening.{enrolls, first_entries, IsNewSettings, IsPlan, OpenCause};
+ghost use Rattle.registrar_book.specs.Opening.{OpenCause};
+ghost use Rattle.registrar_book.specs.Known.{enrolls, first_entries, IsNewSettings, IsPlan};
 ghost use Rattle.registrar_book.specs.Prepared.{IsPrepared};
 
 use crate::OpenFault;

@@ -3,7 +3,7 @@ ghost use Rattle.std.specs.Prelude.{◌≡◌, ◌≢◌, ◌<◌, ◌≤◌, �
 ghost use Rattle.std.specs.List.{AllZip};
 ghost use Rattle.edge_traits.specs.declared.names.PledgeId.{PledgeId};
 ghost use Rattle.registrar_book.specs.declared.answers.OpenFault.TheVariants.{SameKey};
-ghost use Rattle.registrar_book.specs.Opening.{known_of, Knows, IsSameKey, RowsCause, PlacesRow, PlacesRows, IsRowAt, HaveSameKey};
+ghost use Rattle.registrar_book.specs.Known.{known_of, Knows, IsSameKey, RowsCause, PlacesRow, PlacesRows, IsRowAt, HaveKnownKey};
 
 use crate::OpenFault;
 use edge_traits::PledgeId;

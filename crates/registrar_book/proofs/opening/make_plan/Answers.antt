@@ -7,8 +7,9 @@ use Rattle.join_history.specs.Legal.{IsLegal}
 use Rattle.registrar_book.specs.declared.answers.OpenFault.{OpenFault}
 use Rattle.registrar_book.specs.declared.answers.OpenFault.TheVariants.{Disk, NotAJournal, SameKey, ContextsFull, JournalFull, NoMemory}
 use Rattle.registrar_state.proofs.StateLemmas.{IsLegal-stands}
-use Rattle.registrar_book.specs.Opening.{Row, known_of, PlacesRows, IsRowAt, RowsCause, OpenCause, enrolls, first_entries}
-use Rattle.registrar_book.proofs.Enrolling.{placed_longer}
+use Rattle.registrar_book.specs.Opening.{Row, OpenCause}
+use Rattle.registrar_book.specs.Known.{known_of, PlacesRows, IsRowAt, RowsCause, enrolls, first_entries}
+use Rattle.registrar_book.proofs.Enrolling.{placed_longer, same_key, too_many_contexts}
 use Rattle.registrar_book.proofs.Planning.{few_contexts, few_entries, plan_of, too_many}
 use Rattle.registrar_book.proofs.opening.make_plan.Goals as goal
 
@@ -18,7 +19,7 @@ place_rows-requires c =
     omega (arith, few_contexts c.args.log.now legal, ap length c.in-Ok.ensures, ap length c.deref.ensures.value, c.requires.few)
 
 rows_cause : (log : List Entry) (settings : Settings) (rows : List Row) (now : Option ℕ) (why : OpenFault) → IsLegal log → RowsCause (known_of log) rows why → OpenCause log settings rows now why
-rows_cause log settings rows now (SameKey p q) legal cause = (legal, cause)
+rows_cause log settings rows now (SameKey p q) legal cause = (legal, same_key log rows p q cause)
 rows_cause log settings rows now NoMemory legal cause = tt
 rows_cause log settings rows now (Disk count) legal cause = absurd cause
 rows_cause log settings rows now (NotAJournal spot) legal cause = absurd cause
@@ -36,12 +37,9 @@ returns-then-count-clause-err c =
     let log = c.args.log.now in
     let known = c.place_rows.new.known.items in (
       IsLegal-stands c.args.state.now log c.requires.stands,
-      record {
-        new = known;
-        placed = subst (λ (r : List Row). PlacesRows (known_of log) r known) c.deref.ensures.value (subst (λ (k : List Row). PlacesRows k c.deref.result.now known) c.in-Ok.ensures c.in-Ok-place_rows.ensures.placed.0);
-        is = ap length c.as_slice-count.ensures.value;
-        many = c.if-count.true;
-      },
+      too_many_contexts log c.args.opening.now.rows.items known (length c.as_slice-count.result.now)
+          (subst (λ (r : List Row). PlacesRows (known_of log) r known) c.deref.ensures.value (subst (λ (k : List Row). PlacesRows k c.deref.result.now known) c.in-Ok.ensures c.in-Ok-place_rows.ensures.placed.0))
+          (ap length c.as_slice-count.ensures.value) c.if-count.true,
     )
 
 pub overflow_cast-result : goal.overflow_cast-result

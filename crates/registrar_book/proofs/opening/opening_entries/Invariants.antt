@@ -1,5 +1,5 @@
 use Rattle.std.proofs.Common.{◌≡◌, ◌++◌, ◌+◌, length, drop}
-use Rattle.registrar_book.specs.Opening.{enrolls, first_entries}
+use Rattle.registrar_book.specs.Known.{enrolls, first_entries}
 use Rattle.registrar_book.proofs.opening.opening_entries.Given as goal
 
 abbrev pub invariant-loop-row : goal.invariant-loop-row

@@ -1,5 +1,5 @@
 use Rattle.std.proofs.Common.{◌≡◌, ◌++◌, length}
-use Rattle.registrar_book.specs.Opening.{known_of}
+use Rattle.registrar_book.specs.Known.{known_of}
 use Rattle.registrar_book.proofs.rows.known_contexts.Given as goal
 
 abbrev pub invariant-loop-entry : goal.invariant-loop-entry
