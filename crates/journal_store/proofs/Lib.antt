@@ -3,3 +3,4 @@ pub mod Bodies
 pub mod Headers
 pub mod Unique
 pub mod Steps
+pub mod Single

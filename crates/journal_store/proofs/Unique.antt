@@ -15,18 +15,18 @@ use Rattle.journal_store.proofs.Bodies.{entry_some}
 
 -- ---- lists
 
-same_front : (x y a b : List ℕ) → length x ≡ length y → x ++ a ≡ y ++ b → (x ≡ y) × (a ≡ b)
+pub same_front : (x y a b : List ℕ) → length x ≡ length y → x ++ a ≡ y ++ b → (x ≡ y) × (a ≡ b)
 same_front x y a b len is = (
   sym (take_at x a (length x) refl) ∙ ap (λ (xs : List ℕ). take (length x) xs) is ∙ take_at y b (length x) (sym len),
   sym (drop_at x a (length x) refl) ∙ ap (λ (xs : List ℕ). drop (length x) xs) is ∙ drop_at y b (length x) (sym len),
 )
 
-same_tail : (a b : ℕ) (x y : List ℕ) → a ∷ x ≡ b ∷ y → (a ≡ b) × (x ≡ y)
+pub same_tail : (a b : ℕ) (x y : List ℕ) → a ∷ x ≡ b ∷ y → (a ≡ b) × (x ≡ y)
 same_tail a b x y is = (cc, cc)
 
 -- ---- entries
 
-entries_unique : (es fs : List Entry) → AllByRecursion Fits es → AllByRecursion Fits fs → entries_text es ≡ entries_text fs → es ≡ fs
+pub entries_unique : (es fs : List Entry) → AllByRecursion Fits es → AllByRecursion Fits fs → entries_text es ≡ entries_text fs → es ≡ fs
 entries_unique [] [] fit fit' is = refl
 entries_unique [] (f ∷ fs) fit fit' is = absurd (omega (arith, ap length is, length-append (entry_text f) (entries_text fs), entry_some f))
 entries_unique (e ∷ es) [] fit fit' is = absurd (omega (arith, ap length is, length-append (entry_text e) (entries_text es), entry_some e))
@@ -48,11 +48,11 @@ entries_whole (e ∷ es) (f ∷ fs) bad fit fit' is more none =
 -- ---- batches
 
 -- a length that was written is read again
-length_is : (n : ℕ) (rest : List ℕ) → n ≤ 4096 → number_of 4 (number_text 4 n ++ rest) ≡ n
+pub length_is : (n : ℕ) (rest : List ℕ) → n ≤ 4096 → number_of 4 (number_text 4 n ++ rest) ≡ n
 length_is n rest le = number_of-text 4 n rest (omega (arith, le))
 
 -- one body stands at the front of some bytes
-body_unique : (es : List Entry) (body rest behind : List ℕ) → IsBatch es → 1 ≤ length body → length body ≤ 4096
+pub body_unique : (es : List Entry) (body rest behind : List ℕ) → IsBatch es → 1 ≤ length body → length body ≤ 4096
     → body_text es ++ rest ≡ number_text 4 (length body) ++ body ++ behind → (entries_text es ≡ body) × (rest ≡ behind)
 unfolding body_text
 body_unique es body rest behind batch some most is =
@@ -64,7 +64,7 @@ body_unique es body rest behind batch some most is =
     let numbers = same_front (number_text 4 (length text)) (number_text 4 (length body)) (text ++ rest) (body ++ behind) (omega (arith, length-number_text 4 (length text), length-number_text 4 (length body))) left in
     same_front text body rest behind size numbers.1
 
-abbrev text_of : List (List Entry) → List ℕ
+abbrev pub text_of : List (List Entry) → List ℕ
 text_of batches = flat_map batch_text batches
 
 -- the batches that a closed gate ends begin with those that were read
@@ -74,7 +74,7 @@ record Begins (b c : List (List Entry)) (gate : ℕ) (behind rest : List ℕ) : 
   parts : b ≡ c ++ more
   left : rest ≡ text_of more ++ gate ∷ behind
 
-spelled : (es : List Entry) (xs : List ℕ) → body_text es ++ xs ≡ number_text 4 (length (entries_text es)) ++ entries_text es ++ xs
+pub spelled : (es : List Entry) (xs : List ℕ) → body_text es ++ xs ≡ number_text 4 (length (entries_text es)) ++ entries_text es ++ xs
 unfolding body_text
 spelled es xs = refl
 
@@ -121,43 +121,65 @@ one_log end place log other area a b =
 -- ---- faults
 
 -- what stands behind the header
-record HasHeader (area : List ℕ) : Type 0 where
-  behind : List ℕ
-  text : area ≡ header ++ behind
+pub record HasHeader (area : List ℕ) : Type 0 where
+  pub behind : List ℕ
+  pub text : area ≡ header ++ behind
 
 header_of : (end : ℕ) (log : List Entry) (area : List ℕ) → IsLog end log area → HasHeader area
 unfolding front_text
 header_of end log area is = record { behind = text_of is.read.batches ++ is.gate ∷ is.behind; text = is.read.text ∙ append_assoc header (text_of is.read.batches) (is.gate ∷ is.behind) }
 
-long : (area : List ℕ) → HasHeader area → 42 ≤ length area
+pub long : (area : List ℕ) → HasHeader area → 42 ≤ length area
 long area h = omega (arith, ap length h.text, length-append header h.behind)
 
-agrees : (n : ℕ) (area : List ℕ) → HasHeader area → n ≤ 42 → AgreesTo n area
+pub agrees : (n : ℕ) (area : List ℕ) → HasHeader area → n ≤ 42 → AgreesTo n area
 agrees n area h le = ap (λ (xs : List ℕ). take n xs) h.text ∙ take-append-le n header h.behind le
 
-summary_is : (area : List ℕ) → HasHeader area → summary_length area ≡ 22
+pub summary_is : (area : List ℕ) → HasHeader area → summary_length area ≡ 22
 unfolding number_of
 summary_is area h = ap (λ (xs : List ℕ). number_of 4 (drop 16 xs)) h.text
 
-no_difference : (place : ℕ) (area : List ℕ) → HasHeader area → place < 42 → DiffersAt place area → ⊥
+pub no_difference : (place : ℕ) (area : List ℕ) → HasHeader area → place < 42 → DiffersAt place area → ⊥
 no_difference place area h lt differs = differs.differs (agrees (place + 1) area h (omega arith))
 
-no_cut : (area : List ℕ) → HasHeader area → IsSummaryCut area → ⊥
+pub no_cut : (area : List ℕ) → HasHeader area → IsSummaryCut area → ⊥
 no_cut area h (same, inl short) = omega (arith, long area h)
 no_cut area h (same, inr short) = omega (arith, long area h, summary_is area h)
+
+-- behind an open gate there is a whole batch
+pub record HasBatch (bytes : List ℕ) : Type 0 where
+  pub batch : List Entry
+  pub whole : IsBatch batch
+  pub rest : List ℕ
+  pub text : bytes ≡ body_text batch ++ rest
+
+pub no_length_fault : (bytes : List ℕ) → HasBatch bytes → HasNoLength bytes → ⊥
+unfolding body_text
+no_length_fault bytes has fault =
+    let text = entries_text has.batch in
+    let size : number_of 4 bytes ≡ length text
+    = ap (λ (xs : List ℕ). number_of 4 xs) (has.text ∙ append_assoc (number_text 4 (length text)) text has.rest) ∙ length_is (length text) (text ++ has.rest) has.whole.most in
+    let len : length bytes ≡ 4 + length text + length has.rest
+    = omega (arith, ap length has.text, length-append (number_text 4 (length text) ++ text) has.rest, length-append (number_text 4 (length text)) text, length-number_text 4 (length text)) in
+    by fault.none size len
+  where
+    by : (length bytes < 4) ⊎ (number_of 4 bytes ≡ 0) ⊎ (4096 < number_of 4 bytes) ⊎ (length bytes < 4 + number_of 4 bytes) → number_of 4 bytes ≡ length (entries_text has.batch)
+        → length bytes ≡ 4 + length (entries_text has.batch) + length has.rest → ⊥
+    by (inl short) size len = omega arith
+    by (inr (inl none)) size len = omega (arith, has.whole.some)
+    by (inr (inr (inl large))) size len = omega (arith, has.whole.most)
+    by (inr (inr (inr cut))) size len = omega arith
+
+pub no_entry_fault : (bytes body behind : List ℕ) (count : ℕ) → HasBatch bytes → IsBody body behind bytes → HasNoEntry count body → ⊥
+no_entry_fault bytes body behind count has is_body fault =
+    let one = body_unique has.batch body has.rest behind has.whole is_body.some is_body.most (sym has.text ∙ is_body.text) in
+    entries_whole has.batch fault.before fault.bad has.whole.fit fault.fit (one.0 ∙ fault.text) fault.more fault.none
 
 module _ (end : ℕ) (log : List Entry) (area : List ℕ) (is : IsLog end log area) where
   no_gate : (place : ℕ) → HasNoGate place area → ⊥
   no_gate place missing =
       let begins = read_of end place log missing.0 area [] is missing.1 in
       omega (arith, ap length begins.left, length-append (text_of begins.more) (is.gate ∷ is.behind))
-
-  -- behind an open gate there is a whole batch
-  record HasBatch (bytes : List ℕ) : Type 0 where
-    batch : List Entry
-    whole : IsBatch batch
-    rest : List ℕ
-    text : bytes ≡ body_text batch ++ rest
 
   batch_of : (more : List (List Entry)) (bytes : List ℕ) → AllByRecursion IsBatch more → 1 ∷ bytes ≡ text_of more ++ is.gate ∷ is.behind → HasBatch bytes
   batch_of [] bytes all left = absurd (is.closed (sym (same_tail 1 is.gate bytes is.behind left).0))
@@ -167,28 +189,6 @@ module _ (end : ℕ) (log : List Entry) (area : List ℕ) (is : IsLog end log ar
     rest = text_of more ++ is.gate ∷ is.behind;
     text = (same_tail 1 1 bytes _ (left ∙ append_assoc (batch_text d) (text_of more) (is.gate ∷ is.behind))).1;
   }
-
-  no_length_fault : (bytes : List ℕ) → HasBatch bytes → HasNoLength bytes → ⊥
-  unfolding body_text
-  no_length_fault bytes has fault =
-      let text = entries_text has.batch in
-      let size : number_of 4 bytes ≡ length text
-      = ap (λ (xs : List ℕ). number_of 4 xs) (has.text ∙ append_assoc (number_text 4 (length text)) text has.rest) ∙ length_is (length text) (text ++ has.rest) has.whole.most in
-      let len : length bytes ≡ 4 + length text + length has.rest
-      = omega (arith, ap length has.text, length-append (number_text 4 (length text) ++ text) has.rest, length-append (number_text 4 (length text)) text, length-number_text 4 (length text)) in
-      by fault.none size len
-    where
-      by : (length bytes < 4) ⊎ (number_of 4 bytes ≡ 0) ⊎ (4096 < number_of 4 bytes) ⊎ (length bytes < 4 + number_of 4 bytes) → number_of 4 bytes ≡ length (entries_text has.batch)
-          → length bytes ≡ 4 + length (entries_text has.batch) + length has.rest → ⊥
-      by (inl short) size len = omega arith
-      by (inr (inl none)) size len = omega (arith, has.whole.some)
-      by (inr (inr (inl large))) size len = omega (arith, has.whole.most)
-      by (inr (inr (inr cut))) size len = omega arith
-
-  no_entry_fault : (bytes body behind : List ℕ) (count : ℕ) → HasBatch bytes → IsBody body behind bytes → HasNoEntry count body → ⊥
-  no_entry_fault bytes body behind count has is_body fault =
-      let one = body_unique has.batch body has.rest behind has.whole is_body.some is_body.most (sym has.text ∙ is_body.text) in
-      entries_whole has.batch fault.before fault.bad has.whole.fit fault.fit (one.0 ∙ fault.text) fault.more fault.none
 
   pub no_fault : (spot : Spot) → HasFault area spot → ⊥
   no_fault (Place place) (inl (lt, differs)) = no_difference place area (header_of end log area is) (omega arith) differs

@@ -13,6 +13,10 @@ OneLog = (end place : ℕ) (log other : List Entry) (area : List ℕ) → IsLog 
 abbrev pub NoFaultWithLog : Type 0
 NoFaultWithLog = (end : ℕ) (log : List Entry) (area : List ℕ) (spot : Spot) → IsLog end log area → HasFault area spot → ⊥
 
+-- and it has one fault at most
+abbrev pub OneFault : Type 0
+OneFault = (area : List ℕ) (spot other : Spot) → HasFault area spot → HasFault area other → spot ≡ other
+
 -- an area that was formatted has the empty log
 abbrev pub FormattedIsEmpty : Type 0
 FormattedIsEmpty = IsLog 42 [] formatted.left

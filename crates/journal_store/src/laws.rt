@@ -1,10 +1,11 @@
 //! The laws of areas.
-ghost use Rattle.journal_store.specs.Laws.{OneLog, NoFaultWithLog, FormattedIsEmpty, WithoutOrWith};
+ghost use Rattle.journal_store.specs.Laws.{OneLog, NoFaultWithLog, OneFault, FormattedIsEmpty, WithoutOrWith};
 
 /// Does nothing. Its clauses are the laws.
 pub fn area_laws()
     ensures one_log { OneLog }
     ensures no_fault_with_log { NoFaultWithLog }
+    ensures one_fault { OneFault }
     ensures formatted_is_empty { FormattedIsEmpty }
     ensures without_or_with { WithoutOrWith }
 {}

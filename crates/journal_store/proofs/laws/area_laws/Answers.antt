@@ -1,4 +1,5 @@
 use Rattle.journal_store.proofs.Unique.{one_log, no_fault, formatted_is_empty}
+use Rattle.journal_store.proofs.Single.{one_fault}
 use Rattle.journal_store.proofs.Areas.{either}
 use Rattle.journal_store.proofs.laws.area_laws.Goals as goal
 
@@ -7,6 +8,9 @@ returns-clause-one_log c = one_log
 
 pub returns-clause-no_fault_with_log : goal.returns-clause-no_fault_with_log
 returns-clause-no_fault_with_log c end log area spot is fault = no_fault end log area is spot fault
+
+pub returns-clause-one_fault : goal.returns-clause-one_fault
+returns-clause-one_fault c area spot other a b = one_fault area spot other a b
 
 pub returns-clause-formatted_is_empty : goal.returns-clause-formatted_is_empty
 returns-clause-formatted_is_empty c = formatted_is_empty
