@@ -5,7 +5,7 @@ use Rattle.journal_text.specs.declared.entry.Entry.{Entry}
 use Rattle.journal_store.specs.declared.journal.Journal.{Journal}
 use Rattle.journal_store.specs.Store.{disk_of, Stands}
 use Rattle.journal_store.proofs.Steps.{LeavesOnly-map}
-use Rattle.registrar_book.specs.Journals.{HasFront, AreSmall, sizes_of}
+use Rattle.registrar_book.specs.Journals.{HasFront, AreSmall}
 use Rattle.registrar_book.proofs.Fronts.{longer_front, settled_then, stayed}
 
 module _ {D : Type 0} (may_leave : D → Areas → Type 0) (moment : D → ℕ) (left_since : D → ℕ → Areas → Type 0) where
@@ -62,10 +62,7 @@ module _ {D : Type 0} (may_leave : D → Areas → Type 0) (moment : D → ℕ) 
   pub all_put : (told : Type 0) (old new : Journal D) (entries rest : List Entry) → rest ≡ [] → (so : ArePut told old new entries rest) → so.front ≡ entries
   all_put told old new entries rest none so = sym (so.parts ∙ ap (λ (l : List Entry). so.front ++ l) none ∙ append-nil so.front)
 
--- a batch of 32 has room
-pub batch_sizes : (rest batch after : List Entry) → AreSmall rest → rest ≡ batch ++ after → length batch ≤ 32 → sizes_of batch ≤ 4096
-batch_sizes rest batch after small cut most = omega (arith, small [] batch after cut, most)
-
+-- what is left behind a batch
 pub small_after : (rest batch after : List Entry) → AreSmall rest → rest ≡ batch ++ after → AreSmall after
 small_after rest batch after small cut front b back is =
     small (batch ++ front) b back (cut ∙ ap (λ (l : List Entry). batch ++ l) is ∙ sym (append_assoc batch front (b ++ back)))

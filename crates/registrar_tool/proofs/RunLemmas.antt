@@ -1,6 +1,6 @@
 -- Lemmas about lines that are done one after another.
 use Rattle.std.proofs.Common.{◌≡◌, ℕ, ◌≤◌, List, [], ◌∷◌, ◌++◌, Option, Result, Ok, Err, length, refl, sym, ◌∙◌, ap, subst, append_assoc, append-nil, arith, length-append}
-use Rattle.std.specs.Prelude.{IsTrue, OnOk, OnErr}
+use Rattle.std.specs.Prelude.{IsTrue, OnOk}
 use Rattle.edge_traits.specs.Sink.{Appends}
 use Rattle.edge_traits.specs.Disk.{Areas}
 use Rattle.edge_traits.specs.declared.disk.Disk.{Ghosts}
@@ -19,14 +19,10 @@ use Rattle.registrar_tool.specs.Told.{Standing, IsSafe, IsSettled, IsAnswered, I
 use Rattle.registrar_tool.specs.Run.{text_of, AreDone, AreCutShort}
 use Rattle.registrar_tool.specs.Lines.{IsLineDone, IsLineCut}
 
--- what follows from a fact about an `Ok`, or about an `Err`
+-- what follows from a fact about an `Ok`
 pub OnOk-map : {T E : Type 0} (r : Result T E) (P Q : Type 0) → (P → Q) → OnOk r P → OnOk r Q
 OnOk-map (Ok x) P Q f p = f p
 OnOk-map (Err e) P Q f p = tt
-
-pub OnErr-map : {T E : Type 0} (r : Result T E) (P Q : Type 0) → (P → Q) → OnErr r P → OnErr r Q
-OnErr-map (Ok x) P Q f p = tt
-OnErr-map (Err e) P Q f p = f p
 
 -- the text of outcomes and more outcomes
 pub text_of-append : (xs ys : List Outcome) → text_of (xs ++ ys) ≡ text_of xs ++ text_of ys

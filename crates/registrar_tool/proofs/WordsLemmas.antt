@@ -1,5 +1,5 @@
 -- Lemmas about the words of the program.
-use Rattle.std.proofs.Common.{◌≡◌, ◌<◌, ◌≤◌, ℕ, List, [], ◌∷◌, Option, Some, None, length, get_or, arith, codes, sym, ◌∙◌, subst}
+use Rattle.std.proofs.Common.{◌≡◌, ◌<◌, ◌≤◌, ℕ, List, [], ◌∷◌, Option, Some, None, length, get_or, arith, codes, subst}
 use Rattle.std.specs.Prelude.{IfSome, IfNone, is_some}
 use Rattle.journal_text.specs.declared.settings.Settings.{Settings}
 use Rattle.registrar_tool.specs.declared.words.Command.{Command}
@@ -40,11 +40,6 @@ module _ (words : List (List ℕ)) (first count hours : List ℕ) (are : words �
       (subst (λ c. AreSettings first c decide.2 settings) two
       (subst (λ f. AreSettings f decide.1 decide.2 settings) one decide.4)))
   IsDecide-none (Some settings) none = tt
-
--- words that are `init` aren't `decide`
-pub not_both : (words : List (List ℕ)) (settings : Settings) → IsInit words → IsDecide words settings → ⊥
-not_both words settings init decide =
-    let same : codes "init" ∷ [] ≡ codes "decide" ∷ decide.0 ∷ decide.1 ∷ decide.2 ∷ [] = sym init ∙ decide.3 in cc
 
 -- words that are neither are no command
 pub IsCommand-none : (words : List (List ℕ)) → (IsInit words → ⊥) → ((settings : Settings) → IsDecide words settings → ⊥)
