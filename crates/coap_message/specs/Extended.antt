@@ -21,3 +21,7 @@ nibble_of n = if nat_lt n 13 then n else (if nat_lt n 269 then 13 else 14)
 abbrev pub extension : ℕ → List ℕ
 extension n =
     if nat_lt n 13 then [] else (if nat_lt n 269 then (n - 13) ∷ [] else ((n - 269) / 256) ∷ ((n - 269) % 256) ∷ [])
+
+-- how many bytes that is
+abbrev pub extension_len : ℕ → ℕ
+extension_len n = if nat_lt n 13 then 0 else (if nat_lt n 269 then 1 else 2)

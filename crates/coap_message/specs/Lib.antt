@@ -8,3 +8,4 @@ pub mod OptionsLeft
 pub mod Whole
 pub mod Draft
 pub mod Laws
+pub mod Sizes

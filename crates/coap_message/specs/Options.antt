@@ -1,5 +1,5 @@
 -- Options: each a pair of its number and its value (RFC 7252, 3.1).
-use Rattle.std.specs.Prelude.{◌≡◌, ℕ, ◌+◌, ◌-◌, ◌*◌, ◌≤◌, List, [], ◌∷◌, ◌++◌, length}
+use Rattle.std.specs.Prelude.{◌≡◌, ℕ, ◌+◌, ◌-◌, ◌*◌, ◌%◌, ◌≤◌, List, [], ◌∷◌, ◌++◌, length}
 use Rattle.coap_message.specs.Extended.{IsExtended, IsSized, nibble_of, extension}
 
 -- What is spelled is this option, behind one of the number `last`: two nibbles, what extends the first, and the value
@@ -38,3 +38,7 @@ abbrev pub option_spelling : ℕ → ℕ → List ℕ → List ℕ
 option_spelling last number value =
     (16 * nibble_of (number - last) + nibble_of (length value))
     ∷ (extension (number - last) ++ (extension (length value) ++ value))
+
+-- who doesn't know an option of this number must refuse the message (RFC 7252, 5.4.1)
+abbrev pub IsCritical : ℕ → Type 0
+IsCritical number = number % 2 ≡ 1

@@ -1,5 +1,5 @@
 //! A message that is written piece by piece.
-ghost use Rattle.std.specs.Prelude.{◌≡◌, ◌≤◌, ◌↔◌, length, IsOk, OnOk, OnErr, IfErr};
+ghost use Rattle.std.specs.Prelude.{◌≡◌, ◌≤◌, ◌↔◌, [], length, IsOk, OnOk, OnErr, IfErr};
 ghost use Rattle.coap_message.specs.Header.{header_of};
 ghost use Rattle.coap_message.specs.Message.{Packet, IsMessage};
 ghost use Rattle.coap_message.specs.Draft.{draft_of, with_option, with_payload, IsDraftOf};
@@ -58,21 +58,21 @@ impl Draft {
     }
 
     /// Puts the whole message in place of what `out` held. An empty payload has no marker. `TooLong` has the message's
-    /// length.
+    /// length, and leaves `out` empty.
     pub fn write(self, payload: &[u8], out: &mut ArrayVec<u8, 1280>) -> Result<(), TooLong>
         ensures ok { OnOk result (out.new.items ≡ with_payload self payload.now) }
         ensures fits { IsOk result ↔ (length (with_payload self payload.now) ≤ 1280) }
         ensures need { IfErr result (λ e. e.0 ≡ length (with_payload self payload.now)) }
-        ensures err { OnErr result (out.new ≡ out.old) }
+        ensures err { OnErr result (out.new.items ≡ []) }
         // What is written is the message whose pieces the draft got.
         ensures message { (m : Packet) → IsDraftOf m self → payload.now ≡ m.payload
             → OnOk result (IsMessage out.new.items m) }
     {
         let need = self.written.len() + payload_length(payload);
+        out.clear();
         if need > MAX_MESSAGE {
             return Err(TooLong(need));
         }
-        out.clear();
         append(out, self.written.as_slice());
         push_payload(out, payload);
         Ok(())

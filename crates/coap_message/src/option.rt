@@ -1,14 +1,21 @@
 //! Options: their number and their value (RFC 7252, 3.1).
-ghost use Rattle.std.specs.Prelude.{◌≡◌, ◌≤◌, ◌+◌, ◌++◌, [], length};
+ghost use Rattle.std.specs.Prelude.{◌≡◌, ◌≤◌, ◌+◌, ◌++◌, ◌↔◌, IsTrue, [], length};
 ghost use Rattle.std.specs.Option.{option_map};
 ghost use Rattle.arrayvec.specs.ArrayVec.{array_vec_len};
-ghost use Rattle.coap_message.specs.Options.{IsOptions, option_spelling};
+ghost use Rattle.coap_message.specs.Options.{IsOptions, IsCritical, option_spelling};
 ghost use Rattle.coap_message.specs.Reading.{option_at, options_of, behind_options};
 
 use crate::extended::{
     append, extension_length, nibble_for, push_extension, read_extended, read_sized,
 };
 use arrayvec::ArrayVec;
+
+/// Whether a message with an option of this number must be refused by who doesn't know it (RFC 7252, 5.4.1).
+pub fn is_critical(number: u16) -> bool
+    ensures { IsTrue result ↔ IsCritical number }
+{
+    number % 2 == 1
+}
 
 /// The option that stands at the front, behind one of the number `last`, and what follows.
 #[tactic(auto, unfolding(crate::specs::Reading::option_at))]

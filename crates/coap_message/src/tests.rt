@@ -111,6 +111,21 @@ fn options_are_spelled_by_delta_and_length(rt: HostRuntime) -> Result<(), Fail> 
     Ok(())
 }
 
+// RFC 7252, 5.10: Uri-Host, Uri-Port, Uri-Path and Proxy-Scheme are critical, ETag and Size1 are elective.
+#[test]
+fn odd_numbers_are_critical(rt: HostRuntime) {
+    for (number, critical) in [
+        (3, true),
+        (7, true),
+        (11, true),
+        (39, true),
+        (4, false),
+        (60, false),
+    ] {
+        assert_eq!(rt; is_critical(number), critical, "at {number}");
+    }
+}
+
 #[test]
 fn the_first_fault_is_answered(rt: HostRuntime) {
     let cases: [(&[u8], CoapFault); 21] = [
@@ -212,7 +227,9 @@ fn a_message_of_more_than_1280_bytes_is_refused(rt: HostRuntime) -> Result<(), F
     let mut draft = Draft::start(&head);
     assert_eq!(rt; draft.option(11, &ZEROS[..672]), Err(TooLong(1281)));
 
+    // What `out` held is gone after a refusal too.
     let mut out = ArrayVec::new();
+    out.push(1);
     let mut draft = Draft::start(&head);
     draft.option(11, &ZEROS[..671])?;
     assert_eq!(rt; draft.write(&[1], &mut out), Err(TooLong(1282)));
@@ -223,6 +240,7 @@ fn a_message_of_more_than_1280_bytes_is_refused(rt: HostRuntime) -> Result<(), F
     draft.write(&[], &mut out)?;
     assert_eq!(rt; out.len(), 1280);
     message_laws();
+    size_laws();
     Ok(())
 }
 
