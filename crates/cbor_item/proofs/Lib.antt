@@ -3,3 +3,4 @@ pub mod Items
 pub mod Calls
 pub mod Skipping
 pub mod Spelled
+pub mod Steady

@@ -102,6 +102,9 @@ module _ (m : Major) (n : ℕ) where
         ]
       ]
 
+  pub most1 : n < 24 → length (head_text m n) ≤ 1
+  most1 lt = rw (text1 lt) (lit≤ tt)
+
   pub most2 : n < 2 ^ 8 → length (head_text m n) ≤ 2
   most2 lt8 =
       elim (cases_lt n 24) [ inl lt ↦ rw (text1 lt) (lit≤ tt) | inr ge24 ↦ rw (text2 ge24 lt8) (lit≤ tt) ]

@@ -3,3 +3,4 @@ pub mod Item
 pub mod Input
 pub mod Reading
 pub mod Spelling
+pub mod Laws

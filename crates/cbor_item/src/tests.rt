@@ -226,6 +226,7 @@ const NULLS: [(&[u8], Result<(), ItemFault>); 8] = [
 
 #[test]
 fn null_is_one_byte(rt: HostRuntime) {
+    reading_laws();
     for (bytes, want) in NULLS {
         assert_eq!(rt; Reader::new(bytes).null(), want, "{bytes:?}");
     }
