@@ -149,14 +149,16 @@ module _ (before : ConfigFields) where
       let n : ℕ = cond (is_some s.hours) 2 1 in
       let rest : List ℕ = string (to_be_bytes w16 s.address) ++ hours_text s.hours in
       let range = items_in_range (is_some s.hours) in
-      let is : IsShort (array n ++ rest) s = (
-        n,
-        array n,
-        rest,
-        refl,
-        (array_is n range.0, range.1, range.2),
-        (s.address, string (to_be_bytes w16 s.address), hours_text s.hours, refl, address_is s.address w.0 w.1, (s.hours, hours_is s.hours h, refl)),
-      ) in
+      let is : IsShort (array n ++ rest) s = record {
+        items = n;
+        head = array n;
+        address = string (to_be_bytes w16 s.address);
+        hours = hours_text s.hours;
+        parts = refl;
+        begins = (array_is n range.0, range.1, range.2);
+        is_address = address_is s.address w.0 w.1;
+        is_hours = hours_is s.hours h;
+      } in
       times_one IsConfigField before (record before { short = Some s }) (short_text (Some s))
       (pos 3, number 3, array n ++ rest, refl, label_is 3 (lit< tt), (s, new, is, refl))
 

@@ -3,16 +3,17 @@ use Rattle.std.proofs.Common.{◌≡◌, ℕ, zero, suc, ◌+◌, ◌*◌, ◌^�
 use Rattle.std.specs.Prelude.{IfSome, is_some}
 use Rattle.std.specs.List.{flat_map, sum_by}
 use Rattle.std.specs.Int.{w16, to_be_bytes}
+use Rattle.std.proofs.lemmas.List.Sums.{sum_by-le}
 use Rattle.std.proofs.lemmas.Bool.{cases_eq, eq-eqb, ne_eqb}
 use Rattle.cbor_item.specs.declared.head.Major.TheVariants.{Unsigned, Bytes, Array}
 use Rattle.cbor_item.specs.Head.{IsHead}
-use Rattle.cbor_item.proofs.Spelled.{most2, most9, head_spells}
+use Rattle.cbor_item.proofs.Spelled.{most1, most2, most5, head_spells}
 use Rattle.cbor_cojp.specs.declared.key.LinkKey.{LinkKey}
 use Rattle.cbor_cojp.specs.declared.config.Short.{Short}
 use Rattle.cbor_cojp.specs.declared.config.Configuration.{Configuration}
 use Rattle.cbor_cojp.specs.Config.{max32}
-use Rattle.cbor_cojp.specs.Spelling.{capacity, number, string, array, map, usage_text, key_text, key_items, keys_text, hours_text, short_text, jrc_text, refused_text, rate_text, config_count, config_fields, config_text, IsSizedKey, IsWritable}
-use Rattle.cbor_cojp.proofs.JoinText.{length_number, length_map}
+use Rattle.cbor_cojp.specs.Spelling.{capacity, most_config, if_any, if_some, number, string, array, map, usage_text, key_text, key_items, keys_text, hours_text, short_text, jrc_text, refused_text, rate_text, config_count, config_fields, config_text, IsSizedKey, IsWritable}
+use Rattle.cbor_cojp.proofs.JoinText.{tiny_number, tiny_map}
 
 module _ {A : Type 0} (f : A → List ℕ) where
   part_len : (xs : List A) (i : ℕ) (d : A) → i < length xs → length (flat_map f (take i xs)) + length (f (get_or xs i d)) ≤ length (flat_map f xs)
@@ -41,28 +42,36 @@ pub array_is : (n : ℕ) → n < 2 ^ 64 → IsHead (array n) Array n
 unfolding array
 array_is n fits = (head_spells Array n fits).says
 
-length_array : (n : ℕ) → length (array n) ≤ 9
+tiny_array : (n : ℕ) → n < 24 → length (array n) ≤ 1
 unfolding array
-length_array n = most9 Array n
+tiny_array n lt = most1 Array n lt
+
+short_array : (n : ℕ) → n < 256 → length (array n) ≤ 2
+unfolding array
+short_array n lt = most2 Array n lt
 
 short_number : (n : ℕ) → n < 256 → length (number n) ≤ 2
 unfolding number
 short_number n lt = most2 Unsigned n lt
 
-short_string : (value : List ℕ) → length value < 256 → length (string value) ≤ 2 + length value
-unfolding string
-short_string value lt = rw (length-append) (omega (arith, most2 Bytes (length value) lt))
+number32 : (n : ℕ) → n ≤ max32 → length (number n) ≤ 5
+unfolding number
+number32 n le = most5 Unsigned n (omega (arith, le))
 
-usage_len : (usage : ℕ) → usage ≤ 14 → length (usage_text usage) ≤ 2
+tiny_string : (value : List ℕ) → length value < 24 → length (string value) ≤ 1 + length value
+unfolding string
+tiny_string value lt = rw (length-append) (omega (arith, most1 Bytes (length value) lt))
+
+usage_len : (usage : ℕ) → usage ≤ 14 → length (usage_text usage) ≤ 1
 usage_len usage le =
     elim (cases_eq usage 0) [
       | inl none ↦ rw (eq-eqb usage 0 none) (lit≤ tt)
-      | inr some ↦ rw (ne_eqb usage 0 some) (short_number usage (omega arith))
+      | inr some ↦ rw (ne_eqb usage 0 some) (tiny_number usage (omega arith))
     ]
 
-key_len : (key : LinkKey) → IsSizedKey key → key.usage ≤ 14 → length (key_text key) ≤ 22
+key_len : (key : LinkKey) → IsSizedKey key → key.usage ≤ 14 → length (key_text key) ≤ 20
 key_len key h le =
-    let value : length (string key.value) ≤ 2 + length key.value = short_string key.value (omega (arith, h.value)) in
+    let value : length (string key.value) ≤ 1 + length key.value = tiny_string key.value (omega (arith, h.value)) in
     rw (length-append (number key.id) (usage_text key.usage ++ string key.value), length-append (usage_text key.usage) (string key.value))
     (omega (arith, short_number key.id h.id, usage_len key.usage le, value, h.value))
 
@@ -92,53 +101,72 @@ known_from config writable keys same sized most refused jrc hours rate most_refu
   most_refused = most_refused;
 }
 
-keys_len : (keys : List LinkKey) → All (λ key. (1 ≤ key.id) × (key.usage ≤ 14)) keys → All IsSizedKey keys → length keys ≤ 8 → length (keys_text keys) ≤ 187
+items_most : (key : LinkKey) → key_items key ≤ 3
+items_most key =
+    elim (cases_eq key.usage 0) [ inl none ↦ rw (eq-eqb key.usage 0 none) (lit≤ tt) | inr some ↦ rw (ne_eqb key.usage 0 some) (lit≤ tt) ]
+
+keys_len : (keys : List LinkKey) → All (λ key. (1 ≤ key.id) × (key.usage ≤ 14)) keys → All IsSizedKey keys → length keys ≤ 8 → length (keys_text keys) ≤ 163
 keys_len [] w h most = lit≤ tt
 keys_len (key ∷ keys) w h most =
-    let all : length (flat_map key_text (key ∷ keys)) ≤ length (key ∷ keys) * 22 =
-    flat_len key_text 22 (key ∷ keys) (λ k d lt. key_len (get_or (key ∷ keys) k d) (h k d lt) (w k d lt).1) in
+    let all : length (flat_map key_text (key ∷ keys)) ≤ length (key ∷ keys) * 20 =
+    flat_len key_text 20 (key ∷ keys) (λ k d lt. key_len (get_or (key ∷ keys) k d) (h k d lt) (w k d lt).1) in
     let items : ℕ = sum_by key_items (key ∷ keys) in
+    let few : items ≤ length (key ∷ keys) * 3 = sum_by-le key_items 3 (key ∷ keys) (λ k d lt. items_most (get_or (key ∷ keys) k d)) in
+    let small : items < 256 = omega (arith, few, most) in
     rw (length-append (number 2) (array items ++ flat_map key_text (key ∷ keys)), length-append (array items) (flat_map key_text (key ∷ keys)))
-    (omega (arith, short_number 2 (lit< tt), length_array items, all, most))
+    (omega (arith, tiny_number 2 (lit< tt), short_array items small, all, most))
 
-hours_len : (hours : Option ℕ) → length (hours_text hours) ≤ 9
-hours_len None = lit≤ tt
-hours_len (Some hours) = length_number hours
+hours_len : (hours : Option ℕ) → IfSome hours (λ n. n ≤ max32) → length (hours_text hours) ≤ 5
+hours_len None h = lit≤ tt
+hours_len (Some hours) h = number32 hours h
 
-short_len : (short : Option Short) → length (short_text short) ≤ 24
-short_len None = lit≤ tt
-short_len (Some short) =
+items_tiny : (hours : Option ℕ) → cond (is_some hours) 2 1 < 24
+items_tiny None = lit< tt
+items_tiny (Some hours) = lit< tt
+
+short_len : (short : Option Short) → IfSome short (λ s. IfSome s.hours (λ n. n ≤ max32)) → length (short_text short) ≤ 10
+short_len None h = lit≤ tt
+short_len (Some short) h =
     let items : ℕ = cond (is_some short.hours) 2 1 in
     let address : List ℕ = to_be_bytes w16 short.address in
     rw (length-append (number 3) (array items ++ (string address ++ hours_text short.hours)), length-append (array items) (string address ++ hours_text short.hours), length-append (string address) (hours_text short.hours))
-    (omega (arith, short_number 3 (lit< tt), length_array items, short_string address (lit< tt), hours_len short.hours))
+    (omega (arith, tiny_number 3 (lit< tt), tiny_array items (items_tiny short.hours), tiny_string address (lit< tt), hours_len short.hours h))
 
-jrc_len : (jrc : Option (List ℕ)) → IfSome jrc (λ v. length v ≡ 16) → length (jrc_text jrc) ≤ 20
+jrc_len : (jrc : Option (List ℕ)) → IfSome jrc (λ v. length v ≡ 16) → length (jrc_text jrc) ≤ 18
 jrc_len None h = lit≤ tt
 jrc_len (Some v) h =
-    let value : length (string v) ≤ 2 + length v = short_string v (omega (arith, h)) in
-    rw (length-append (number 4) (string v)) (omega (arith, short_number 4 (lit< tt), value, h))
+    let value : length (string v) ≤ 1 + length v = tiny_string v (omega (arith, h)) in
+    rw (length-append (number 4) (string v)) (omega (arith, tiny_number 4 (lit< tt), value, h))
 
-refused_len : (ids : List (List ℕ)) → All (λ id. length id ≡ 8) ids → length ids ≤ 16 → length (refused_text ids) ≤ 171
+refused_len : (ids : List (List ℕ)) → All (λ id. length id ≡ 8) ids → length ids ≤ 16 → length (refused_text ids) ≤ 146
 refused_len [] h most = lit≤ tt
 refused_len (id ∷ ids) h most =
-    let one : (k : ℕ) (d : List ℕ) → k < length (id ∷ ids) → length (string (get_or (id ∷ ids) k d)) ≤ 10 =
-    λ k d lt. (let is : length (get_or (id ∷ ids) k d) ≡ 8 = h k d lt in omega (arith, short_string (get_or (id ∷ ids) k d) (omega (arith, is)), is)) in
-    let all : length (flat_map string (id ∷ ids)) ≤ length (id ∷ ids) * 10 = flat_len string 10 (id ∷ ids) one in
+    let one : (k : ℕ) (d : List ℕ) → k < length (id ∷ ids) → length (string (get_or (id ∷ ids) k d)) ≤ 9 =
+    λ k d lt. (let is : length (get_or (id ∷ ids) k d) ≡ 8 = h k d lt in omega (arith, tiny_string (get_or (id ∷ ids) k d) (omega (arith, is)), is)) in
+    let all : length (flat_map string (id ∷ ids)) ≤ length (id ∷ ids) * 9 = flat_len string 9 (id ∷ ids) one in
     let n : ℕ = length (id ∷ ids) in
     rw (length-append (number 6) (array n ++ flat_map string (id ∷ ids)), length-append (array n) (flat_map string (id ∷ ids)))
-    (omega (arith, short_number 6 (lit< tt), length_array n, all, most))
+    (omega (arith, tiny_number 6 (lit< tt), tiny_array n (omega (arith, most)), all, most))
 
-rate_len : (rate : Option ℕ) → length (rate_text rate) ≤ 11
-rate_len None = lit≤ tt
-rate_len (Some rate) = rw (length-append (number 7) (number rate)) (omega (arith, short_number 7 (lit< tt), length_number rate))
+rate_len : (rate : Option ℕ) → IfSome rate (λ n. n ≤ max32) → length (rate_text rate) ≤ 6
+rate_len None h = lit≤ tt
+rate_len (Some rate) h = rw (length-append (number 7) (number rate)) (omega (arith, tiny_number 7 (lit< tt), number32 rate h))
 
-pub config_len : (config : Configuration) → IsKnown config → length (config_text config) ≤ 512
+any_most : {A : Type 0} (xs : List A) → if_any xs ≤ 1
+any_most [] = lit≤ tt
+any_most (x ∷ xs) = lit≤ tt
+
+some_most : {A : Type 0} (o : Option A) → if_some o ≤ 1
+some_most None = lit≤ tt
+some_most (Some x) = lit≤ tt
+
+pub config_len : (config : Configuration) → IsKnown config → length (config_text config) ≤ most_config
 config_len config h =
     let k = config.keys.items in
     let r = config.refused.items in
     let last = refused_text r ++ rate_text config.rate in
     let middle = jrc_text config.jrc ++ last in
+    let count : config_count config < 24 = omega (arith, any_most k, some_most config.short, some_most config.jrc, any_most r, some_most config.rate) in
     rw (
       length-append (map (config_count config)) (config_fields config),
       length-append (keys_text k) (short_text config.short ++ middle),
@@ -148,10 +176,10 @@ config_len config h =
     )
     (omega (
       arith,
-      length_map (config_count config),
+      tiny_map (config_count config) count,
       keys_len k h.writable.keys h.keys h.most_keys,
-      short_len config.short,
+      short_len config.short h.hours,
       jrc_len config.jrc h.jrc,
       refused_len r h.refused h.most_refused,
-      rate_len config.rate,
+      rate_len config.rate h.rate,
     ))

@@ -1,5 +1,5 @@
 -- Configurations.
-use Rattle.std.proofs.Common.{◌≡◌, ℕ, ◌≤◌, Bool, eqb, leb, List, [], ◌∷◌, ◌++◌, Option, Some, None, Result, Ok, Err, refl, sym, subst, inl, inr}
+use Rattle.std.proofs.Common.{◌≡◌, ℕ, ◌≤◌, Bool, eqb, leb, List, [], ◌∷◌, ◌++◌, Option, Some, None, Result, Ok, Err, refl, sym, ap, subst, ◌∙◌, inl, inr}
 use Rattle.std.specs.Prelude.{◌&&◌, IfOk}
 use Rattle.std.specs.Int.{w16, from_be_bytes}
 use Rattle.std.proofs.lemmas.Bool.{eqb-true, eqb-false, eq-eqb, ne_eqb, leb-true, le-leb, and_parts}
@@ -54,7 +54,7 @@ address_again end text n rest h =
     let high : m ≤ 65533 = subst (λ (k : ℕ). k ≤ 65533) h.2 h.4 in
     rw ((reads_sized 3 2).again end text h.0 rest h.1, le-leb 1 m low, le-leb m 65533 high, h.2) refl
 
-reads_address : IsReadingOf address_at IsAddress
+pub reads_address : IsReadingOf address_at IsAddress
 reads_address = record { takes = address_takes; again = address_again }
 
 abbrev Timed : Type 0
@@ -80,12 +80,18 @@ unfolding hours_at
 hours_again items end text None rest h = rw (h.1, ne_eqb items 2 h.0) refl
 hours_again items end text (Some hours) rest h = rw (eq-eqb items 2 h.0, (reads_bounded 3 Unsigned 0 max32).again end text hours rest h.1) refl
 
-reads_hours : (items : ℕ) → IsReadingOf (hours_at items) (IsHours items)
+pub reads_hours : (items : ℕ) → IsReadingOf (hours_at items) (IsHours items)
 reads_hours items = record { takes = hours_take items; again = hours_again items }
 
-reads_short : IsReadingOf short_at IsShort
+-- the parts of a short address, one behind the other
+abbrev pub Parts : List ℕ → Short → Type 0
+Parts =
+    Then (IsBounded Array 1 2) (λ items. Then IsAddress (λ address rest s.
+    (hours : Option ℕ) × IsHours items rest hours × (s ≡ record { address = address; hours = hours })))
+
+reads_parts : IsReadingOf short_at Parts
 unfolding short_at
-reads_short =
+reads_parts =
     reads_then (bounded_at 3 Array 1 2) (IsBounded Array 1 2)
     (λ items end bytes. address_at end bytes >>= λ a. ◌>>=◌ {B = Short × List ℕ} (hours_at items end a.1) (λ h. Ok (record { address = a.0; hours = h.0 }, h.1)))
     (λ items. Then IsAddress (λ address rest s. (hours : Option ℕ) × IsHours items rest hours × (s ≡ record { address = address; hours = hours })))
@@ -96,9 +102,32 @@ reads_short =
     reads_address
     (λ address. reads_made (hours_at items) (IsHours items) (λ h. record { address = address; hours = h }) (reads_hours items)))
 
+pub short_from : (text : List ℕ) (short : Short) → Parts text short → IsShort text short
+short_from text short h =
+    let a = h.5 in
+    let made : Short = record { address = a.0; hours = a.5.0 } in
+    let is : IsShort text made = record {
+      items = h.0;
+      head = h.1;
+      address = a.1;
+      hours = a.2;
+      parts = h.3 ∙ ap (λ (xs : List ℕ). h.1 ++ xs) a.3;
+      begins = h.4;
+      is_address = a.4;
+      is_hours = a.5.1;
+    } in
+    subst (λ (s : Short). IsShort text s) (sym a.5.2) is
+
+short_to : (text : List ℕ) (short : Short) → IsShort text short → Parts text short
+short_to text short h =
+    (h.items, h.head, h.address ++ h.hours, h.parts, h.begins, (short.address, h.address, h.hours, refl, h.is_address, (short.hours, h.is_hours, refl)))
+
+reads_short : IsReadingOf short_at IsShort
+reads_short = reads_as short_at Parts IsShort reads_parts short_from short_to
+
 -- ---- refused pledges
 
-reads_one_refused : (before : List (List ℕ)) → IsReadingOf (refused_at before) (AddsRefused before)
+pub reads_one_refused : (before : List (List ℕ)) → IsReadingOf (refused_at before) (AddsRefused before)
 unfolding refused_at
 reads_one_refused before = reads_made (sized_at 6 8) (IsSized 8) (λ id. before ++ id ∷ []) (reads_sized 6 8)
 
@@ -122,7 +151,7 @@ config_value Other before =
     (reads_made (λ end bytes. form (skip_at end bytes)) IsSkipped (λ x. before) (reads_form skip_at IsSkipped reads_skipped))
     (λ text after h. (h.1, h.2)) (λ text after h. (tt, h.0, h.1))
 
-config_field : (before : ConfigFields) → IsReadingOf (config_field_at before) (IsConfigField before)
+pub config_field : (before : ConfigFields) → IsReadingOf (config_field_at before) (IsConfigField before)
 unfolding config_field_at
 config_field before =
     reads_then (λ end bytes. form (int_at end bytes)) IsInt (λ z. config_value_at (label_of z) before) (λ z. IsConfigValue (label_of z) before)

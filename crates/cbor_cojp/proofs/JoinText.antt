@@ -6,10 +6,10 @@ use Rattle.std.proofs.lemmas.List.{append-nil}
 use Rattle.cbor_item.specs.declared.head.Major.TheVariants.{Unsigned, Bytes, Map}
 use Rattle.cbor_item.specs.Head.{IsHead}
 use Rattle.cbor_item.specs.Reading.{IsInt, IsString}
-use Rattle.cbor_item.proofs.Spelled.{most9, head_spells, string_spells}
+use Rattle.cbor_item.proofs.Spelled.{most1, most3, most9, head_spells, string_spells}
 use Rattle.cbor_cojp.specs.Grammar.{Times}
 use Rattle.cbor_cojp.specs.Join.{Join, JoinFields, no_fields, IsJoinField, IsJoin}
-use Rattle.cbor_cojp.specs.Spelling.{number, string, map, role_text, network_text, join_count, join_text}
+use Rattle.cbor_cojp.specs.Spelling.{most_join, number, string, map, role_text, network_text, join_count, join_text}
 
 -- ---- items
 
@@ -32,13 +32,17 @@ pub length_number : (n : ℕ) → length (number n) ≤ 9
 unfolding number
 length_number n = most9 Unsigned n
 
-pub length_map : (n : ℕ) → length (map n) ≤ 9
-unfolding map
-length_map n = most9 Map n
+pub tiny_number : (n : ℕ) → n < 24 → length (number n) ≤ 1
+unfolding number
+tiny_number n lt = most1 Unsigned n lt
 
-pub length_string : (value : List ℕ) → length (string value) ≤ 9 + length value
+pub tiny_map : (n : ℕ) → n < 24 → length (map n) ≤ 1
+unfolding map
+tiny_map n lt = most1 Map n lt
+
+length_string : (value : List ℕ) → length value < 2 ^ 16 → length (string value) ≤ 3 + length value
 unfolding string
-length_string value = rw (length-append) (omega (arith, most9 Bytes (length value)))
+length_string value lt = rw (length-append) (omega (arith, most3 Bytes (length value) lt))
 
 -- ---- fields, the first in front of the others
 
@@ -52,21 +56,27 @@ module _ {S : Type 0} (IsField : S → List ℕ → S → Type 0) where
 
 -- ---- length
 
-role_len : (role : ℕ) → length (role_text role) ≤ 18
+role_len : (role : ℕ) → length (role_text role) ≤ 10
 role_len role =
     elim (cases_eq role 0) [
       | inl zero ↦ rw (eq-eqb role 0 zero) (lit≤ tt)
-      | inr other ↦ rw (ne_eqb role 0 other, length-append (number 1) (number role)) (omega (arith, length_number 1, length_number role))
+      | inr other ↦ rw (ne_eqb role 0 other, length-append (number 1) (number role)) (omega (arith, tiny_number 1 (lit< tt), length_number role))
     ]
 
-network_len : (network : Option (List ℕ)) → IfSome network (λ v. length v ≤ 400) → length (network_text network) ≤ 418
+network_len : (network : Option (List ℕ)) → IfSome network (λ v. length v ≤ 400) → length (network_text network) ≤ 404
 network_len None h = lit≤ tt
-network_len (Some v) h = rw (length-append (number 5) (string v)) (omega (arith, length_number 5, length_string v, h))
+network_len (Some v) h = rw (length-append (number 5) (string v)) (omega (arith, tiny_number 5 (lit< tt), length_string v (omega (arith, h)), h))
 
-pub join_len : (join : Join) → IfSome join.network (λ v. length v ≤ 400) → length (join_text join) ≤ 512
+count_tiny : (a b : Bool) → cond a 0 1 + cond b 1 0 < 24
+count_tiny true true = lit< tt
+count_tiny true false = lit< tt
+count_tiny false true = lit< tt
+count_tiny false false = lit< tt
+
+pub join_len : (join : Join) → IfSome join.network (λ v. length v ≤ 400) → length (join_text join) ≤ most_join
 join_len join h =
     rw (length-append (map (join_count join)) (role_text join.role ++ network_text join.network), length-append (role_text join.role) (network_text join.network))
-    (omega (arith, length_map (join_count join), role_len join.role, network_len join.network h))
+    (omega (arith, tiny_map (join_count join) (count_tiny (eqb join.role 0) (is_some join.network)), role_len join.role, network_len join.network h))
 
 -- ---- meaning
 

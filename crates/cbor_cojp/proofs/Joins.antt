@@ -14,13 +14,13 @@ use Rattle.cbor_cojp.specs.Grammar.{Then, Times, times_at, object_at}
 use Rattle.cbor_cojp.specs.Join.{Join, view, JoinFields, JoinLabel, Role, Network, Unsupported, Other, no_fields, join_of, label_of, IsTriple, IsTripleCount, IsUnsupported, IsJoinValue, IsJoinField, IsJoin, triple_at, unsupported_at, join_value_at, join_field_at, join_at}
 use Rattle.cbor_cojp.proofs.Reading.{IsReadingOf, ok_is, bind_ok, guard_off, reads_form, reads_within, reads_then, reads_made, reads_if, reads_new, reads_as, reads_times, object_takes, object_again}
 
-int_within : IsReadingOf (λ end bytes. within 8 (int_at end bytes)) IsInt
+pub int_within : IsReadingOf (λ end bytes. within 8 (int_at end bytes)) IsInt
 int_within = reads_within int_at IsInt reads_int 8
 
-skip_within : IsReadingOf (λ end bytes. within 8 (skip_at end bytes)) IsSkipped
+pub skip_within : IsReadingOf (λ end bytes. within 8 (skip_at end bytes)) IsSkipped
 skip_within = reads_within skip_at IsSkipped reads_skipped 8
 
-reads_triple : IsReadingOf triple_at IsTriple
+pub reads_triple : IsReadingOf triple_at IsTriple
 unfolding triple_at
 reads_triple =
     reads_then (λ end bytes. within 8 (int_at end bytes)) IsInt
@@ -29,16 +29,16 @@ reads_triple =
     (λ code. reads_then (λ end bytes. within 8 (int_at end bytes)) IsInt (λ label end bytes. within 8 (skip_at end bytes)) (λ label. IsSkipped)
     int_within (λ label. skip_within))
 
-triples : (n : ℕ) → IsReadingOf (times_at (λ before. triple_at) n tt) (Times (λ before. IsTriple) n tt)
+pub triples : (n : ℕ) → IsReadingOf (times_at (λ before. triple_at) n tt) (Times (λ before. IsTriple) n tt)
 triples n = reads_times (λ before. triple_at) (λ before. IsTriple) (λ before. reads_triple) n tt
 
-test_to : (n : ℕ) → (eqb (n % 3) 0 && leb 3 n) ≡ true → IsTripleCount n
+pub test_to : (n : ℕ) → (eqb (n % 3) 0 && leb 3 n) ≡ true → IsTripleCount n
 test_to n e = let p = and_parts (eqb (n % 3) 0) (leb 3 n) e in (eqb-true _ _ p.0, leb-true _ _ p.1)
 
-test_from : (n : ℕ) → IsTripleCount n → (eqb (n % 3) 0 && leb 3 n) ≡ true
+pub test_from : (n : ℕ) → IsTripleCount n → (eqb (n % 3) 0 && leb 3 n) ≡ true
 test_from n h = rw (eq-eqb (n % 3) 0 h.0, le-leb 3 n h.1) refl
 
-reads_unsupported : IsReadingOf unsupported_at IsUnsupported
+pub reads_unsupported : IsReadingOf unsupported_at IsUnsupported
 unfolding unsupported_at
 reads_unsupported =
     reads_then (λ end bytes. within 8 (argument_of Array end bytes)) (λ head n. IsHead head Array n)
@@ -75,7 +75,7 @@ join_value Other before =
     (reads_made (λ end bytes. form (skip_at end bytes)) IsSkipped (λ x. before) (reads_form skip_at IsSkipped reads_skipped))
     (λ text after h. (h.1, h.2)) (λ text after h. (tt, h.0, h.1))
 
-join_field : (before : JoinFields) → IsReadingOf (join_field_at before) (IsJoinField before)
+pub join_field : (before : JoinFields) → IsReadingOf (join_field_at before) (IsJoinField before)
 unfolding join_field_at
 join_field before =
     reads_then (λ end bytes. form (int_at end bytes)) IsInt (λ z. join_value_at (label_of z) before) (λ z. IsJoinValue (label_of z) before)

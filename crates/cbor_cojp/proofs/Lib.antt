@@ -8,3 +8,7 @@ pub mod Writing
 pub mod JoinText
 pub mod ConfigText
 pub mod ConfigBack
+pub mod Steady
+mod JoinLaws
+mod KeyLaws
+mod ConfigLaws

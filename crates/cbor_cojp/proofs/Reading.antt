@@ -60,7 +60,7 @@ module _ {Y : Type 0} (read : ℕ → List ℕ → Result (Y × List ℕ) ItemFa
     again = λ end text value rest h. ap (within label) (reading.again end text value rest h);
   }
 
-none_from : {A : Type 0} (o : Option A) → is_some o ≡ false → o ≡ None
+pub none_from : {A : Type 0} (o : Option A) → is_some o ≡ false → o ≡ None
 none_from None e = refl
 none_from (Some x) e = absurd cc
 
@@ -185,7 +185,7 @@ map_again end text n rest h =
     ap (λ (xs : List ℕ). map_at end (xs ++ rest)) h.spelled
     ∙ rw is_map (ap (λ (xs : List ℕ). form (argument_of Map end (xs ++ rest))) (sym h.spelled) ∙ read)
 
-reads_map : IsReadingOf map_at (λ text n. IsHead text Map n)
+pub reads_map : IsReadingOf map_at (λ text n. IsHead text Map n)
 reads_map = record { takes = map_takes; again = map_again }
 
 ended_ok : (end : ℕ) (left : List ℕ) (done : Unit {0}) → ended_at end left ≡ Ok done → left ≡ []

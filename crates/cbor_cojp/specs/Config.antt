@@ -75,10 +75,16 @@ abbrev pub IsHours : ℕ → List ℕ → Option ℕ → Type 0
 IsHours items text None = (items ≢ 2) × (text ≡ [])
 IsHours items text (Some hours) = (items ≡ 2) × IsBounded Unsigned 0 max32 text hours
 
-abbrev pub IsShort : List ℕ → Short → Type 0
-IsShort text short =
-    Then (IsBounded Array 1 2) (λ items. Then IsAddress (λ address rest s.
-    (hours : Option ℕ) × IsHours items rest hours × (s ≡ record { address = address; hours = hours }))) text short
+-- an array of the address and, where the lease has an end, its time
+pub record IsShort (text : List ℕ) (short : Short) : Type 0 where
+  pub items : ℕ
+  pub head : List ℕ
+  pub address : List ℕ
+  pub hours : List ℕ
+  pub parts : text ≡ head ++ (address ++ hours)
+  pub begins : IsBounded Array 1 2 head items
+  pub is_address : IsAddress address short.address
+  pub is_hours : IsHours items hours short.hours
 
 abbrev pub AddsRefused : List (List ℕ) → List ℕ → List (List ℕ) → Type 0
 AddsRefused before text after = (id : List ℕ) × IsSized 8 text id × (after ≡ before ++ id ∷ [])

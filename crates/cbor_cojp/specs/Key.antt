@@ -51,53 +51,67 @@ pub record IsKeySet (text : List ℕ) (keys : List LinkKey) : Type 0 where
   pub follows : AreKeys body keys items
   pub at_most : length keys ≤ 8
 
--- ---- reading from the left. `left` is how many items of the array are left.
+-- ---- reading from the left. `left` is how many items of the array are left, `spare` how many beside a key's id and value.
 
 -- an item of this major type is next
 abbrev pub is_next : Major → List ℕ → Bool
 is_next major [] = false
 is_next major (first ∷ bytes) = code_of (major_of first) == code_of major
 
-abbrev pub small : ℤ → List ℕ → ℕ → Result ((ℕ × ℕ) × List ℕ) CojpFault
-small (pos n) bytes left = if nat_le n 14 then Ok ((n, left), bytes) else Err (Malformed 2)
-small (negsuc n) bytes left = Err (Malformed 2)
+-- a usage, and how many items are left beside the key's id and value
+pub record Used : Type 0 where
+  pub usage : ℕ
+  pub spare : ℕ
 
-unfoldable pub usage_at : ℕ → ℕ → List ℕ → Result ((ℕ × ℕ) × List ℕ) CojpFault
-usage_at zero end bytes = Err (Malformed 2)
-usage_at (suc left) end bytes =
-    if is_next Unsigned bytes || is_next Negative bytes then within 2 (int_at end bytes) >>= (λ z. small z.0 z.1 left)
-    else Ok ((0, suc left), bytes)
+-- a key, and how many items of the array are left
+pub record Made : Type 0 where
+  pub key : LinkKey
+  pub left : ℕ
 
-unfoldable pub key_value_at : ℕ → ℕ → List ℕ → Result ((List ℕ × ℕ) × List ℕ) CojpFault
-key_value_at zero end bytes = Err (Malformed 2)
-key_value_at (suc left) end bytes = sized_at 2 16 end bytes >>= λ x. Ok ((x.0, left), x.1)
+abbrev pub used_view : ℕ × ℕ → Used
+used_view x = record { usage = x.0; spare = x.1 }
+
+abbrev pub made_view : LinkKey × ℕ → Made
+made_view x = record { key = x.0; left = x.1 }
+
+abbrev pub small : ℤ → List ℕ → ℕ → Result (Used × List ℕ) CojpFault
+small (pos n) bytes spare =
+    if nat_le n 14 then Ok (record { usage = n; spare = spare }, bytes) else Err (Malformed 2)
+small (negsuc n) bytes spare = Err (Malformed 2)
+
+-- Where no item is spare, only the value may stand there.
+unfoldable pub usage_at : ℕ → ℕ → List ℕ → Result (Used × List ℕ) CojpFault
+usage_at zero end bytes = Ok (record { usage = 0; spare = 0 }, bytes)
+usage_at (suc spare) end bytes =
+    if is_next Unsigned bytes || is_next Negative bytes then within 2 (int_at end bytes) >>= (λ z. small z.0 z.1 spare)
+    else Ok (record { usage = 0; spare = suc spare }, bytes)
 
 unfoldable pub info_at : ℕ → ℕ → List ℕ → Result (ℕ × List ℕ) CojpFault
 info_at zero end bytes = Ok (0, bytes)
 info_at (suc left) end bytes =
     if is_next Bytes bytes then within 2 (string_at Bytes end bytes) >>= (λ x. Ok (left, x.1)) else Ok (suc left, bytes)
 
--- a key, of which the id is one item of the array
-unfoldable pub key_at : ℕ → ℕ → List ℕ → Result ((LinkKey × ℕ) × List ℕ) CojpFault
-key_at left end bytes = do
+-- a key, where so many items are left beside its id and its value
+unfoldable pub key_at : ℕ → ℕ → List ℕ → Result (Made × List ℕ) CojpFault
+key_at spare end bytes = do
   id ← bounded_at 2 Unsigned 1 255 end bytes
-  usage ← usage_at left end id.1
-  value ← key_value_at usage.0.1 end usage.1
-  info ← info_at value.0.1 end value.1
-  Ok ((record { id = id.0; usage = usage.0.0; value = value.0.0 }, info.0), info.1)
+  used ← usage_at spare end id.1
+  value ← sized_at 2 16 end used.1
+  info ← info_at used.0.spare end value.1
+  Ok (record { key = record { id = id.0; usage = used.0.usage; value = value.0 }; left = info.0 }, info.1)
 
--- where a ninth key would stand
-abbrev pub extra_key : ℕ → List ℕ → CojpFault
-extra_key end [] = Form (Truncated (place end []))
-extra_key end (b ∷ bytes) = Malformed 2
+-- where items are left in which no key fits: one item, or any behind eight keys
+abbrev pub extra_item : ℕ → List ℕ → CojpFault
+extra_item end [] = Form (Truncated (place end []))
+extra_item end (b ∷ bytes) = Malformed 2
 
 unfoldable pub keys_at : ℕ → ℕ → List LinkKey → ℕ → List ℕ → Result (List LinkKey × List ℕ) CojpFault
-keys_at zero zero before end bytes = Ok (before, bytes)
-keys_at zero (suc left) before end bytes = Err (extra_key end bytes)
-keys_at (suc room) zero before end bytes = Ok (before, bytes)
-keys_at (suc room) (suc left) before end bytes = do
-  x ← key_at left end bytes
-  keys_at room x.0.1 (before ++ x.0.0 ∷ []) end x.1
+keys_at room zero before end bytes = Ok (before, bytes)
+keys_at room (suc zero) before end bytes = Err (extra_item end bytes)
+keys_at zero (suc (suc spare)) before end bytes = Err (extra_item end bytes)
+keys_at (suc room) (suc (suc spare)) before end bytes = do
+  made ← key_at spare end bytes
+  keys_at room made.0.left (before ++ made.0.key ∷ []) end made.1
 
 unfoldable pub key_set_at : ℕ → List ℕ → Result (List LinkKey × List ℕ) CojpFault
 key_set_at end bytes = do

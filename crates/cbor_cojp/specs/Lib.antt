@@ -5,3 +5,4 @@ pub mod Join
 pub mod Key
 pub mod Config
 pub mod Spelling
+pub mod Laws

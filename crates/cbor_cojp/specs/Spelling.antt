@@ -15,6 +15,13 @@ use Rattle.cbor_cojp.specs.Join.{Join}
 abbrev pub capacity : ℕ
 capacity = 512
 
+-- how long a written object is at most: a request whose network has 400 bytes at most, and a configuration
+abbrev pub most_join : ℕ
+most_join = 415
+
+abbrev pub most_config : ℕ
+most_config = 344
+
 -- The text is appended, or it doesn't fit.
 abbrev pub Puts : List ℕ → List ℕ → List ℕ → Result (Unit {0}) Full → Type 0
 Puts text old new (Ok done) = new ≡ old ++ text

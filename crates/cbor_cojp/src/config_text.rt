@@ -3,7 +3,7 @@ ghost use Rattle.std.specs.Prelude.{◌≡◌, ◌++◌, ◌≤◌, All, IfSome,
 ghost use Rattle.std.specs.List.{flat_map, sum_by};
 ghost use Rattle.std.specs.Int.{w16, to_be_bytes};
 ghost use Rattle.cbor_cojp.specs.Config.{max32, IsConfig};
-ghost use Rattle.cbor_cojp.specs.Spelling.{Puts, number, string, array, map, key_items, keys_text, hours_text, short_text, jrc_text, refused_text, rate_text, if_any, if_some, config_count, config_fields, config_text, IsWritable};
+ghost use Rattle.cbor_cojp.specs.Spelling.{Puts, number, string, array, map, key_items, keys_text, hours_text, short_text, jrc_text, refused_text, rate_text, if_any, if_some, config_count, config_fields, config_text, most_config, IsWritable};
 
 use crate::config::{Configuration, Short};
 use crate::key::LinkKey;
@@ -225,6 +225,7 @@ pub fn write_config(config: &Configuration, out: &mut ArrayVec<u8, 512>)
     // What is written is the configuration, and is read back as the same.
     ensures reads_back { IsConfig out.new.items config.now }
     ensures exact { out.new.items ≡ config_text config.now }
+    ensures most { length out.new.items ≤ most_config }
 {
     let items = items_of(config.keys.as_slice());
     let count = count_of(config);

@@ -4,7 +4,7 @@ ghost use Rattle.cbor_item.specs.declared.head.Major.TheVariants.{Unsigned, Byte
 ghost use Rattle.cbor_cojp.specs.Fault.{Reads, Gives};
 ghost use Rattle.cbor_cojp.specs.Grammar.{times_at};
 ghost use Rattle.cbor_cojp.specs.Join.{Join, Role, Network, Unsupported, Other, view, fields_view, no_fields, triple_at, unsupported_at, join_value_at, join_field_at, join_at, IsJoin};
-ghost use Rattle.cbor_cojp.specs.Spelling.{Puts, role_text, network_text, join_count, join_text};
+ghost use Rattle.cbor_cojp.specs.Spelling.{Puts, role_text, network_text, join_count, join_text, most_join};
 
 use crate::fault::CojpFault;
 use crate::object::{end_object, read_label, read_map};
@@ -199,6 +199,7 @@ pub fn write_join(join: &JoinRequest<'_>, out: &mut ArrayVec<u8, 512>)
     // What is written is the request, and is read back as the same.
     ensures reads_back { IsJoin out.new.items (view join.now) }
     ensures exact { out.new.items ≡ join_text (view join.now) }
+    ensures most { length out.new.items ≤ most_join }
 {
     let mut writer = Writer::new();
     match put_join(&mut writer, join) {

@@ -1,7 +1,7 @@
 //! Link-layer keys, and sets of them (RFC 9031, 8.4.3).
 ghost use Rattle.std.specs.Prelude.{◌≡◌, []};
 ghost use Rattle.cbor_cojp.specs.Fault.{Reads};
-ghost use Rattle.cbor_cojp.specs.Key.{is_next, usage_at, key_value_at, info_at, key_at, extra_key, keys_at, key_set_at};
+ghost use Rattle.cbor_cojp.specs.Key.{used_view, made_view, is_next, usage_at, info_at, key_at, extra_item, keys_at, key_set_at};
 
 use crate::fault::CojpFault;
 use crate::value::{bounded_array, bounded_uint, bytes_within, int_within, sized};
@@ -27,32 +27,21 @@ fn is_next(reader: &Reader<'_>, major: Major) -> bool
     }
 }
 
-/// The usage, if there is one, and how many items are left of the array. An absent usage is 0.
+/// The usage, if there is one, and how many items are left beside the key's id and value. An absent usage is 0.
 #[tactic(auto, unfolding(crate::specs::Key::usage_at))]
-fn read_usage(reader: &mut Reader<'_>, left: u64) -> Result<(u8, u64), CojpFault>
-    ensures { Reads (λ x. x) reader.old reader.new result (usage_at left reader.old.end reader.old.left) }
+fn read_usage(reader: &mut Reader<'_>, spare: u64) -> Result<(u8, u64), CojpFault>
+    ensures { Reads used_view reader.old reader.new result (usage_at spare reader.old.end reader.old.left) }
 {
-    if left == 0 {
-        return Err(CojpFault::Malformed(2));
+    if spare == 0 {
+        return Ok((0, 0));
     }
     if !is_next(reader, Major::Unsigned) && !is_next(reader, Major::Negative) {
-        return Ok((0, left));
+        return Ok((0, spare));
     }
     match int_within(reader, 2)? {
-        usage @ 0..=14 => Ok((usage as u8, left - 1)),
+        usage @ 0..=14 => Ok((usage as u8, spare - 1)),
         _ => Err(CojpFault::Malformed(2)),
     }
-}
-
-#[tactic(auto, unfolding(crate::specs::Key::key_value_at))]
-fn read_value(reader: &mut Reader<'_>, left: u64) -> Result<([u8; 16], u64), CojpFault>
-    ensures { Reads (λ x. x) reader.old reader.new result (key_value_at left reader.old.end reader.old.left) }
-{
-    if left == 0 {
-        return Err(CojpFault::Malformed(2));
-    }
-    let value = sized(reader, 2)?;
-    Ok((value, left - 1))
 }
 
 /// Passes over additional information, if there is some, and gives how many items are left of the array.
@@ -67,21 +56,21 @@ fn skip_info(reader: &mut Reader<'_>, left: u64) -> Result<u64, CojpFault>
     Ok(left - 1)
 }
 
-/// A key, and how many items are left of the array.
+/// A key, where so many items are left beside its id and its value, and how many items are left of the array.
 #[tactic(auto, unfolding(crate::specs::Key::key_at))]
-fn read_key(reader: &mut Reader<'_>, left: u64) -> Result<(LinkKey, u64), CojpFault>
-    ensures { Reads (λ x. x) reader.old reader.new result (key_at left reader.old.end reader.old.left) }
+fn read_key(reader: &mut Reader<'_>, spare: u64) -> Result<(LinkKey, u64), CojpFault>
+    ensures { Reads made_view reader.old reader.new result (key_at spare reader.old.end reader.old.left) }
 {
     let id = bounded_uint(reader, 2, 1, 255)? as u8;
-    let (usage, left) = read_usage(reader, left)?;
-    let (value, left) = read_value(reader, left)?;
-    let left = skip_info(reader, left)?;
+    let (usage, spare) = read_usage(reader, spare)?;
+    let value = sized(reader, 2)?;
+    let left = skip_info(reader, spare)?;
     Ok((LinkKey { id, usage, value }, left))
 }
 
-/// The fault where a ninth key would stand.
-fn extra_key(reader: &Reader<'_>) -> CojpFault
-    ensures { result ≡ extra_key reader.now.end reader.now.left }
+/// The fault where items are left in which no key fits.
+fn extra_item(reader: &Reader<'_>) -> CojpFault
+    ensures { result ≡ extra_item reader.now.end reader.now.left }
 {
     match reader.peek() {
         None => CojpFault::Form(ItemFault::Truncated(reader.place())),
@@ -95,10 +84,10 @@ fn read_keys(reader: &mut Reader<'_>, count: u64) -> Result<ArrayVec<LinkKey, 8>
     let mut keys = ArrayVec::new();
     let mut left = count;
     while left > 0 {
-        if keys.is_full() {
-            return Err(extra_key(reader));
+        if left == 1 || keys.is_full() {
+            return Err(extra_item(reader));
         }
-        let (key, after) = read_key(reader, left - 1)?;
+        let (key, after) = read_key(reader, left - 2)?;
         keys.push(key);
         left = after;
     }

@@ -1,7 +1,9 @@
 //! Objects with their values, and byte strings with their first fault, worked out by hand from the rules.
+ghost use Rattle.std.specs.Prelude.{◌≤◌, ◌↔◌, IsTrue, All};
+
 use crate::{
-    CojpFault, Configuration, JoinRequest, LinkKey, Short, read_config, read_join, write_config,
-    write_join,
+    CojpFault, Configuration, JoinRequest, LinkKey, Short, object_laws, read_config, read_join,
+    write_config, write_join,
 };
 use arrayvec::ArrayVec;
 use cbor_item::ItemFault;
@@ -117,7 +119,7 @@ const REQUESTS: [(&[u8], CojpFault); 60] = [
 ];
 
 /// Configurations, each with its first fault.
-const CONFIGURATIONS: [(&[u8], CojpFault); 51] = [
+const CONFIGURATIONS: [(&[u8], CojpFault); 59] = [
     (
         b"\xa2\x04\x50\x00\x00\x00\x00\x00\x00\x00\x00\x00\x00\x00\x00\x00\x00\x00\x00\x04",
         CojpFault::Repeated(4),
@@ -216,6 +218,32 @@ const CONFIGURATIONS: [(&[u8], CojpFault); 51] = [
     (
         b"\xa1\x02\x98\x20\x01\x50\xe6\xbf\x42\x87\xc2\xd7\x61\x8d\x6a\x96\x87\x44\x5f\xfd\x33\xe6\x01\x50\xe6\xbf\x42\x87\xc2\xd7\x61\x8d\x6a\x96\x87\x44\x5f\xfd\x33\xe6\x01\x50\xe6\xbf\x42\x87\xc2\xd7\x61\x8d\x6a\x96\x87\x44\x5f\xfd\x33\xe6\x01\x50\xe6\xbf\x42\x87\xc2\xd7\x61\x8d\x6a\x96\x87\x44\x5f\xfd\x33\xe6\x01\x50\xe6\xbf\x42\x87\xc2\xd7\x61\x8d\x6a\x96\x87\x44\x5f\xfd\x33\xe6\x01\x50\xe6\xbf\x42\x87\xc2\xd7\x61\x8d\x6a\x96\x87\x44\x5f\xfd\x33\xe6\x01\x50\xe6\xbf\x42\x87\xc2\xd7\x61\x8d\x6a\x96\x87\x44\x5f\xfd\x33\xe6\x01\x50\xe6\xbf\x42\x87\xc2\xd7\x61\x8d\x6a\x96\x87\x44\x5f\xfd\x33\xe6",
         CojpFault::Form(ItemFault::Truncated(148)),
+    ),
+    // One item is left behind a key, and only its information fits.
+    (
+        b"\xa1\x02\x83\x01\x50\x09\x09\x09\x09\x09\x09\x09\x09\x09\x09\x09\x09\x09\x09\x09\x09",
+        CojpFault::Form(ItemFault::Truncated(21)),
+    ),
+    (
+        b"\xa1\x02\x83\x01\x50\x09\x09\x09\x09\x09\x09\x09\x09\x09\x09\x09\x09\x09\x09\x09\x09\x19\x00",
+        CojpFault::Malformed(2),
+    ),
+    (
+        b"\xa1\x02\x83\x01\x50\x09\x09\x09\x09\x09\x09\x09\x09\x09\x09\x09\x09\x09\x09\x09\x09\x1f",
+        CojpFault::Malformed(2),
+    ),
+    (
+        b"\xa1\x02\x83\x01\x50\x09\x09\x09\x09\x09\x09\x09\x09\x09\x09\x09\x09\x09\x09\x09\x09\x5f",
+        CojpFault::Form(ItemFault::Indefinite(21)),
+    ),
+    // One item is left behind the id, and only the value fits.
+    (b"\xa1\x02\x82\x01\x19\x00", CojpFault::Malformed(2)),
+    (b"\xa1\x02\x82\x01\x1f", CojpFault::Malformed(2)),
+    (b"\xa1\x02\x82\x01\x39", CojpFault::Malformed(2)),
+    // One item is left behind a key with its information, and nothing fits.
+    (
+        b"\xa1\x02\x84\x01\x50\x09\x09\x09\x09\x09\x09\x09\x09\x09\x09\x09\x09\x09\x09\x09\x09\x40\x58",
+        CojpFault::Malformed(2),
     ),
 ];
 
@@ -419,4 +447,60 @@ fn additional_information_is_not_kept(rt: HostRuntime) -> Result<(), Fail> {
     assert!(rt; config.keys == full().keys);
     assert!(rt; config.short.is_none());
     Ok(())
+}
+
+fn is_writable(key: &LinkKey) -> bool
+    ensures { IsTrue result ↔ ((1 ≤ key.now.id) × (key.now.usage ≤ 14)) }
+{
+    key.id >= 1 && key.usage <= 14
+}
+
+fn are_writable(keys: &[LinkKey]) -> bool
+    ensures { IsTrue result ↔ All (λ key. (1 ≤ key.id) × (key.usage ≤ 14)) keys.now }
+{
+    keys.iter().all(is_writable)
+}
+
+// 1 for the map, 163 for eight keys of 20, 10 for the lease, 18 for the address, 146 for 16 pledges of 9, 6 for the rate.
+#[test]
+fn the_longest_configuration_has_344_bytes(rt: HostRuntime) -> Result<(), Fail> {
+    let mut refused = ArrayVec::new();
+    for _ in 0..16 {
+        let _full = refused.try_push([0xff; 8]);
+    }
+    let mut out = ArrayVec::new();
+    let config = Configuration {
+        keys: keys_of(&[(255, 14); 8]),
+        short: Some(Short {
+            address: 0xfffd,
+            hours: Some(u32::MAX),
+        }),
+        jrc: Some([0xff; 16]),
+        refused,
+        rate: Some(u32::MAX),
+    };
+    assert!(rt;
+        config
+            .keys
+            .as_slice()
+            .iter()
+            .all(|key| 1 <= key.id && key.usage <= 14)
+    );
+    write_config(&config, &mut out);
+    assert_eq!(rt; out.len(), 344);
+    assert!(rt; read_config(out.as_slice())? == config);
+    Ok(())
+}
+
+// 1 for the map, 10 for the role, 404 for a network of 400 bytes.
+#[test]
+fn the_longest_request_has_415_bytes(rt: HostRuntime) {
+    let join = JoinRequest {
+        role: u64::MAX,
+        network: Some(&[0; 400]),
+    };
+    let mut out = ArrayVec::new();
+    write_join(&join, &mut out);
+    assert_eq!(rt; out.len(), 415);
+    object_laws();
 }

@@ -10,7 +10,7 @@ copy_out-requires c =
     let known = known_from c.args.config.now c.requires c.as_slice.result.now c.as_slice.ensures.value c.items_of-items.ensures.sized c.as_slice.ensures.fits
     c.count_of-count.ensures.refused c.count_of-count.ensures.jrc c.count_of-count.ensures.hours c.count_of-count.ensures.rate
     (omega (arith, c.len-most_refused.ensures.value, c.len-most_refused.ensures.fits)) in
-    rw (c.in-Ok.ensures, c.new-writer.ensures) (config_len c.args.config.now known)
+    rw (c.in-Ok.ensures, c.new-writer.ensures) (omega (arith, config_len c.args.config.now known))
 
 pub unreachable-requires : goal.unreachable-requires
 unreachable-requires c =
@@ -28,3 +28,11 @@ returns-clause-reads_back c =
     (omega (arith, c.len-most_refused.ensures.value, c.len-most_refused.ensures.fits)) in
     let written : c.copy_out.new.out.items ≡ config_text c.args.config.now = rw (c.copy_out.ensures, c.in-Ok.ensures, c.new-writer.ensures) refl in
     subst (λ (bytes : List ℕ). IsConfig bytes c.args.config.now) (sym written) (config_is c.args.config.now known)
+
+pub returns-clause-most : goal.returns-clause-most
+returns-clause-most c =
+    let known = known_from c.args.config.now c.requires c.as_slice.result.now c.as_slice.ensures.value c.items_of-items.ensures.sized c.as_slice.ensures.fits
+    c.count_of-count.ensures.refused c.count_of-count.ensures.jrc c.count_of-count.ensures.hours c.count_of-count.ensures.rate
+    (omega (arith, c.len-most_refused.ensures.value, c.len-most_refused.ensures.fits)) in
+    let written : c.copy_out.new.out.items ≡ config_text c.args.config.now = rw (c.copy_out.ensures, c.in-Ok.ensures, c.new-writer.ensures) refl in
+    rw written (config_len c.args.config.now known)

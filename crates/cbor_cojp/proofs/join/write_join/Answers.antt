@@ -7,7 +7,7 @@ use Rattle.cbor_cojp.proofs.join.write_join.Goals as goal
 pub copy_out-requires : goal.copy_out-requires
 copy_out-requires c =
     let within = join_len (view c.args.join.now) c.requires in
-    rw (c.in-Ok.ensures.put, c.new-writer.ensures) within
+    rw (c.in-Ok.ensures.put, c.new-writer.ensures) (omega (arith, within))
 
 pub unreachable-requires : goal.unreachable-requires
 unreachable-requires c =
@@ -19,3 +19,8 @@ pub returns-clause-reads_back : goal.returns-clause-reads_back
 returns-clause-reads_back c =
     let written : c.copy_out.new.out.items ≡ join_text (view c.args.join.now) = rw (c.copy_out.ensures, c.in-Ok.ensures.put, c.new-writer.ensures) refl in
     subst (λ (bytes : List ℕ). IsJoin bytes (view c.args.join.now)) (sym written) (join_is (view c.args.join.now) c.put_join.ensures.small c.requires)
+
+pub returns-clause-most : goal.returns-clause-most
+returns-clause-most c =
+    let written : c.copy_out.new.out.items ≡ join_text (view c.args.join.now) = rw (c.copy_out.ensures, c.in-Ok.ensures.put, c.new-writer.ensures) refl in
+    rw written (join_len (view c.args.join.now) c.requires)
