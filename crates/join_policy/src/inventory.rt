@@ -13,7 +13,7 @@ use crate::index::{Index, index_of};
 use crate::lookup::read_pledges;
 use crate::row::read_rows;
 use crate::verdict::{is_other, is_refused};
-use crate::{FieldName, InventoryFault, Row, Verdict};
+use crate::{FieldName, InventoryFault, Row, Rule, Verdict};
 use edge_traits::PledgeId;
 use journal_text::Settings;
 use std::alloc::Global;
@@ -194,16 +194,16 @@ impl Inventory {
         ensures { result ≡ verdict_on self.now row.now role (option_map (λ v. v.now) network.entry) }
     {
         if !row.allow {
-            return Verdict::Denied(1);
+            return Verdict::Denied(Rule::Barred);
         }
         if role == 1 && !row.sixlbr {
-            return Verdict::Denied(2);
+            return Verdict::Denied(Rule::NotSixLbr);
         }
         if is_other(self.network(), network) {
-            return Verdict::Denied(3);
+            return Verdict::Denied(Rule::OtherNetwork);
         }
         if is_refused(row.id, self.head.settings.refused.as_slice()) {
-            return Verdict::Denied(4);
+            return Verdict::Denied(Rule::Refused);
         }
         Verdict::Allowed
     }

@@ -19,4 +19,4 @@ pub use fault::InventoryFault;
 pub use field::FieldName;
 pub use inventory::Inventory;
 pub use row::Row;
-pub use verdict::Verdict;
+pub use verdict::{Rule, Verdict};

@@ -1,15 +1,46 @@
 //! Who may join.
-ghost use Rattle.std.specs.Prelude.{◌≡◌, option_map};
+ghost use Rattle.std.specs.Prelude.{◌≡◌, ◌≤◌, option_map};
 ghost use Rattle.join_policy.specs.Verdicts.{is_other, is_refused};
 
 use edge_traits::PledgeId;
+
+/// The rules, in the order in which they are judged.
+#[derive(Clone, Copy, Debug, PartialEq, Eq)]
+pub enum Rule {
+    /// The pledge may not join.
+    Barred,
+    /// It asks to be a 6LBR, which it may not be.
+    NotSixLbr,
+    /// It names another network.
+    OtherNetwork,
+    /// It is among the refused.
+    Refused,
+}
+
+impl Rule {
+    ghost use Rattle.join_policy.specs.Verdicts.{number_of};
+
+    /// The rule's number, by which an entry of the journal names it.
+    pub fn number(self) -> u8
+        ensures number { result ≡ number_of self }
+        ensures some { 1 ≤ result }
+        ensures most { result ≤ 4 }
+    {
+        match self {
+            Rule::Barred => 1,
+            Rule::NotSixLbr => 2,
+            Rule::OtherNetwork => 3,
+            Rule::Refused => 4,
+        }
+    }
+}
 
 /// What the inventory says of a request.
 #[derive(Clone, Copy, Debug, PartialEq, Eq)]
 pub enum Verdict {
     Allowed,
-    /// 1: the pledge may not join. 2: it may not be a 6LBR. 3: it asks for another network. 4: it is among the refused.
-    Denied(u8),
+    /// This rule denies it, and none before it does.
+    Denied(Rule),
 }
 
 /// Whether another network than `own` is named.

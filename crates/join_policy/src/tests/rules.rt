@@ -1,6 +1,6 @@
 //! Verdicts, and values and defaults.
 use super::pledge;
-use crate::{Inventory, Verdict};
+use crate::{Inventory, Rule, Verdict};
 use std::test::Fail;
 
 /// Four pledges: allowed, not allowed, a 6LBR, and one among the refused. Defaults but for `keys`.
@@ -11,25 +11,45 @@ const TEXT: &str =
 const REQUESTS: [(u8, u64, Option<&[u8]>, Verdict); 21] = [
     (0xa1, 0, None, Verdict::Allowed),
     (0xa1, 0, Some(b"\xca\xfe"), Verdict::Allowed),
-    (0xa1, 0, Some(b"\xbe\xef"), Verdict::Denied(3)),
-    (0xa1, 0, Some(b""), Verdict::Denied(3)),
-    (0xa1, 0, Some(b"\xca"), Verdict::Denied(3)),
-    (0xa1, 0, Some(b"\xca\xfe\0"), Verdict::Denied(3)),
-    (0xa1, 1, None, Verdict::Denied(2)),
-    (0xa1, 1, Some(b"\xbe\xef"), Verdict::Denied(2)),
+    (
+        0xa1,
+        0,
+        Some(b"\xbe\xef"),
+        Verdict::Denied(Rule::OtherNetwork),
+    ),
+    (0xa1, 0, Some(b""), Verdict::Denied(Rule::OtherNetwork)),
+    (0xa1, 0, Some(b"\xca"), Verdict::Denied(Rule::OtherNetwork)),
+    (
+        0xa1,
+        0,
+        Some(b"\xca\xfe\0"),
+        Verdict::Denied(Rule::OtherNetwork),
+    ),
+    (0xa1, 1, None, Verdict::Denied(Rule::NotSixLbr)),
+    (0xa1, 1, Some(b"\xbe\xef"), Verdict::Denied(Rule::NotSixLbr)),
     (0xa1, 2, None, Verdict::Allowed),
-    (0xa2, 0, None, Verdict::Denied(1)),
-    (0xa2, 1, Some(b"\xbe\xef"), Verdict::Denied(1)),
+    (0xa2, 0, None, Verdict::Denied(Rule::Barred)),
+    (0xa2, 1, Some(b"\xbe\xef"), Verdict::Denied(Rule::Barred)),
     (0xa3, 0, None, Verdict::Allowed),
     (0xa3, 1, None, Verdict::Allowed),
     (0xa3, 1, Some(b"\xca\xfe"), Verdict::Allowed),
-    (0xa3, 1, Some(b"\xbe\xef"), Verdict::Denied(3)),
-    (0xa4, 0, None, Verdict::Denied(4)),
-    (0xa4, 0, Some(b"\xca\xfe"), Verdict::Denied(4)),
-    (0xa4, 0, Some(b"\xbe\xef"), Verdict::Denied(3)),
-    (0xa4, 1, None, Verdict::Denied(2)),
-    (0xa5, 0, None, Verdict::Denied(4)),
-    (0xa5, 1, None, Verdict::Denied(4)),
+    (
+        0xa3,
+        1,
+        Some(b"\xbe\xef"),
+        Verdict::Denied(Rule::OtherNetwork),
+    ),
+    (0xa4, 0, None, Verdict::Denied(Rule::Refused)),
+    (0xa4, 0, Some(b"\xca\xfe"), Verdict::Denied(Rule::Refused)),
+    (
+        0xa4,
+        0,
+        Some(b"\xbe\xef"),
+        Verdict::Denied(Rule::OtherNetwork),
+    ),
+    (0xa4, 1, None, Verdict::Denied(Rule::NotSixLbr)),
+    (0xa5, 0, None, Verdict::Denied(Rule::Refused)),
+    (0xa5, 1, None, Verdict::Denied(Rule::Refused)),
 ];
 
 #[test]
@@ -44,6 +64,19 @@ fn the_first_rule_denies(rt: HostRuntime) -> Result<(), Fail> {
         );
     }
     Ok(())
+}
+
+#[test]
+fn the_rules_are_numbered_in_their_order(rt: HostRuntime) {
+    let rules = [
+        Rule::Barred,
+        Rule::NotSixLbr,
+        Rule::OtherNetwork,
+        Rule::Refused,
+    ];
+    for (at, rule) in rules.into_iter().enumerate() {
+        assert_eq!(rt; rule.number() as usize, at + 1);
+    }
 }
 
 #[test]
