@@ -1,5 +1,5 @@
 //! Items of RFC 8949, appendix A, and faults that were worked out by hand from the rules.
-use crate::{Full, ItemFault, Reader, Writer};
+use crate::{Full, ItemFault, Reader, Writer, reading_laws};
 use std::test::Fail;
 
 fn whole(bytes: &[u8]) -> Result<(), ItemFault> {
