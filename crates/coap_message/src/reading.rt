@@ -36,6 +36,8 @@ pub fn parse(bytes: &[u8]) -> Result<Message<'_>, CoapFault>
     ensures fault { IfErr result (IsFault bytes.now) }
     // The first fault that applies is answered.
     ensures first_fault { (e : CoapFault) → IsFault bytes.now e → IsErrOf result e }
+    // The same as a function of the bytes.
+    ensures exact { seen packet_of result ≡ message_at bytes.now }
 {
     read_message(bytes)
 }
@@ -67,6 +69,8 @@ pub fn parse_inner(bytes: &[u8]) -> Result<Inner<'_>, CoapFault>
     ensures fault { IfErr result (IsInnerFault bytes.now) }
     // The first fault that applies is answered.
     ensures first_fault { (e : CoapFault) → IsInnerFault bytes.now e → IsErrOf result e }
+    // The same as a function of the bytes.
+    ensures exact { seen inner_packet_of result ≡ inner_at bytes.now }
 {
     read_inner(bytes)
 }
