@@ -1,0 +1,3 @@
+pub mod Items
+pub mod Nonces
+pub mod Contexts
