@@ -1,8 +1,12 @@
 //! The link-layer keys of one epoch.
 ghost use Rattle.std.specs.Prelude.{◌≡◌, ⊤};
+ghost use Rattle.key_sets.specs.Keys as spec;
 
 use arrayvec::ArrayVec;
 use std::alloc::AllocError;
+
+/// How many key ids there are.
+const KEY_IDS: u64 = 252;
 
 /// The keys that came into force together, 1 to 4 of 16 bytes, and their epoch, from 1 (RFC 9031, 8.4.3).
 #[derive(Debug, PartialEq, Eq, Drop)]
@@ -27,4 +31,12 @@ impl Clone for KeySet {
             keys,
         })
     }
+}
+
+/// The id of the key at this place of an epoch's set, from 0: 1 to 252, so that the ids of two sets in force differ
+/// (RFC 9031, 8.4.3).
+pub fn key_id(epoch: u32, place: u8) -> u8
+    ensures { result ≡ spec.key_id epoch place }
+{
+    (1 + (4 * u64::from(epoch) + u64::from(place)) % KEY_IDS) as u8
 }
