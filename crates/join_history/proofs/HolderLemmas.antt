@@ -6,6 +6,8 @@ use Rattle.join_history.specs.Times.{last_time}
 use Rattle.join_history.specs.Contexts.{pledge_of}
 use Rattle.join_history.specs.Leases.{Holds, IsLive, IsDueAddress}
 use Rattle.join_history.specs.Legal.{IsLegal, MayFollow}
+use Rattle.journal_text.specs.declared.entry.Entry.TheVariants.{Grant}
+use Rattle.join_history.proofs.ListLemmas.{no_middle}
 use Rattle.join_history.proofs.LegalLemmas.{legal_induction}
 use Rattle.join_history.proofs.TimeLemmas.{last_time-push, last_time-rises}
 use Rattle.join_history.proofs.LeaseLemmas.{pledge_decides, one_pledge, Holds-from_live, Holds-earlier, Holds-push_cases, IsHoldingGrant}
@@ -39,12 +41,12 @@ one_holder-push : (h : List Entry) (e : Entry) → IsLegal h → MayFollow h e �
 one_holder-push h e legal may one t a p q later held held' =
     let rises = last_time-rises h e may in
     elim (Holds-push_cases h e t a p legal may held) [
-      | inl old ↦ elim (Holds-push_cases h e t a q legal may held') [
-        | inl old' ↦ one t a p q (omega (arith, rises, later)) old old'
+      | inl (old, kept) ↦ elim (Holds-push_cases h e t a q legal may held') [
+        | inl (old', kept') ↦ one t a p q (omega (arith, rises, later)) old old'
         | inr new' ↦ sym (grant_holder h e t a q p one may later new' old)
       ]
       | inr new ↦ elim (Holds-push_cases h e t a q legal may held') [
-        | inl old' ↦ grant_holder h e t a p q one may later new old'
+        | inl (old', kept') ↦ grant_holder h e t a p q one may later new old'
         | inr new' ↦
             let same : new.context ≡ new'.context = cc in
             one_pledge h new'.context p q (subst (λ c. pledge_of h c ≡ Some p) same new.pledge) new'.pledge
@@ -55,7 +57,7 @@ one_holder-push h e legal may one t a p q later held held' =
 pub one_holder : (h : List Entry) (t a : ℕ) (p q : PledgeId) → IsLegal h → last_time h ≤ t → Holds h t a p
     → Holds h t a q → p ≡ q
 one_holder h t a p q legal =
-    let none : HasOneHolder [] = λ t a p q later held held'. absurd (omega (arith, held.4.1)) in
+    let none : HasOneHolder [] = λ t a p q later held held'. absurd (no_middle held.4.before held.4.after (Grant held.0 held.1 held.2 a held.3) held.4.place) in
     legal_induction HasOneHolder none one_holder-push h legal t a p q
 
 -- from the last time on no two live leases of a legal history have one address

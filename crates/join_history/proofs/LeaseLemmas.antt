@@ -1,18 +1,19 @@
 -- Lemmas about pledges, and about which address is held, live and free.
-use Rattle.std.proofs.Common.{◌≡◌, ◌≢◌, ◌⊎◌, inl, inr, ℕ, ◌+◌, ◌<◌, ◌≤◌, Bool, true, false, List, [], ◌∷◌, ◌++◌, Option, Some, refl, sym, ap, ◌∙◌, subst, arith, Contains, if◌then◌else◌, ◌==◌}
+use Rattle.std.proofs.Common.{◌≡◌, ◌≢◌, ◌⊎◌, inl, inr, ℕ, ◌+◌, ◌<◌, ◌≤◌, Bool, true, false, List, [], ◌∷◌, ◌++◌, Option, Some, refl, sym, ap, ◌∙◌, subst, arith, Contains, All, if◌then◌else◌, ◌==◌}
 use Rattle.std.specs.Bool.{Decides}
 use Rattle.std.specs.Str.{bytes_eq}
 use Rattle.std.proofs.lemmas.Bool.{false≢true, cases_order}
 use Rattle.std.proofs.lemmas.Option.{same_Some, none-some}
 use Rattle.std.proofs.lemmas.Slice.Eq.{bytes_eq-Decides}
-use Rattle.std.proofs.lemmas.List.Elements.{Contains-push_cases}
+use Rattle.std.proofs.lemmas.List.Elements.{Contains-push_cases, Contains-append_left, All-contains, All-weaker}
 use Rattle.edge_traits.specs.declared.names.PledgeId.{PledgeId}
 use Rattle.journal_text.specs.declared.entry.Entry.{Entry}
 use Rattle.journal_text.specs.declared.entry.Entry.TheVariants.{Enroll, Grant}
 use Rattle.join_history.specs.Contexts.{pledge_of}
-use Rattle.join_history.specs.Leases.{Holds, IsLive, IsGrantTo, IsDueAddress, IsLeastFree, HasNoAddress}
+use Rattle.join_history.specs.Leases.{IsReleaseOf, IsInEffect, Holds, IsLeaseOf, IsLive, IsDueAddress, IsLeastFree, HasNoAddress}
 use Rattle.join_history.specs.Legal.{IsLegal, MayFollow}
-use Rattle.join_history.proofs.LastLemmas.{IsLast-contains, IsLast-unique}
+use Rattle.join_history.proofs.LastLemmas.{IsLast-unique}
+use Rattle.join_history.proofs.ListLemmas.{Contains-middle, All-from_contains, Last, Earlier, in_pushed}
 use Rattle.join_history.proofs.LegalLemmas.{legal_induction}
 
 -- two pledges are the same or not
@@ -39,11 +40,22 @@ pledge_of-append (_ ∷ h) g c p is = pledge_of-append h g c p is
 pub one_pledge : (h : List Entry) (c : ℕ) (p q : PledgeId) → pledge_of h c ≡ Some p → pledge_of h c ≡ Some q → p ≡ q
 one_pledge h c p q is_p is_q = same_Some p q (sym is_p ∙ is_q)
 
+-- a Grant among what gives a pledge leases and takes them back is one to the pledge
+pub granted_lease : (h : List Entry) (p : PledgeId) (time context number a until : ℕ)
+    → IsLeaseOf h p (Grant time context number a until) → pledge_of h context ≡ Some p
+granted_lease h p time context number a until (inl granted) = granted
+granted_lease h p time context number a until (inr released) = absurd released
+
 -- a live lease is held
 pub Holds-from_live : (h : List Entry) (t a : ℕ) (p : PledgeId) → IsLive h t p a → Holds h t a p
 Holds-from_live h t a p (time, context, number, until, last, later) =
-    let has = IsLast-contains (IsGrantTo h p) h (Grant time context number a until) last in
-    (time, context, number, until, has, last.holds, omega (arith, later))
+    let effect : IsInEffect h p (Grant time context number a until) = record {
+      before = last.before;
+      after = last.after;
+      place = last.place;
+      none_since = All-weaker (λ y. IsLeaseOf h p y → ⊥) (λ y. IsReleaseOf p y → ⊥) (λ y none released. none (inr released)) last.after last.none_after;
+    } in
+    (time, context, number, until, effect, granted_lease h p time context number a until last.holds, omega (arith, later))
 
 -- what is held at a time was held before it
 pub Holds-earlier : (h : List Entry) (s t a : ℕ) (p : PledgeId) → s ≤ t → Holds h t a p → Holds h s a p
@@ -54,7 +66,7 @@ pub IsLive-unique : (h : List Entry) (t : ℕ) (p : PledgeId) (a b : ℕ) → Is
 IsLive-unique h t p a b live live' =
     let grant = Grant live.0 live.1 live.2 a live.3 in
     let grant' = Grant live'.0 live'.1 live'.2 b live'.3 in
-    let same : grant ≡ grant' = IsLast-unique (IsGrantTo h p) h grant grant' live.4 live'.4 in
+    let same : grant ≡ grant' = IsLast-unique (IsLeaseOf h p) h grant grant' live.4 live'.4 in
     cc
 
 -- each Grant of a legal history is of a context that was enrolled
@@ -80,18 +92,34 @@ pub record IsHoldingGrant (h : List Entry) (e : Entry) (t a : ℕ) (p : PledgeId
   pub pledge : pledge_of h context ≡ Some p
   pub later : t < until + 3600
 
--- what is held behind one more entry was held before it, or the entry is its Grant
+-- a Grant that is in effect stands in the history
+pub IsInEffect-contains : (h : List Entry) (p : PledgeId) (e : Entry) → IsInEffect h p e → Contains h e
+IsInEffect-contains h p e effect =
+    subst (λ g. Contains g e) (sym effect.place) (Contains-middle effect.before e effect.after)
+
+-- what is held after one more entry was held before it and wasn't released by it, or the entry is its Grant
 pub Holds-push_cases : (h : List Entry) (e : Entry) (t a : ℕ) (p : PledgeId) → IsLegal h → MayFollow h e
-    → Holds (h ++ e ∷ []) t a p → Holds h t a p ⊎ IsHoldingGrant h e t a p
-Holds-push_cases h e t a p legal may (time, context, number, until, has, pledge, later) =
+    → Holds (h ++ e ∷ []) t a p → (Holds h t a p × (IsReleaseOf p e → ⊥)) ⊎ IsHoldingGrant h e t a p
+Holds-push_cases h e t a p legal may (time, context, number, until, effect, pledge, later) =
     let grant = Grant time context number a until in
-    elim (Contains-push_cases h e grant has) [
-      | inl old ↦
-          let known = Grant-enrolled time context number a until h legal old in
+    elim (in_pushed h e effect.before grant effect.after effect.place) [
+      | Earlier rest place after ↦
+          let since = subst (All (λ x. IsReleaseOf p x → ⊥)) after effect.none_since in
+          let before : IsInEffect h p grant = record {
+            before = effect.before;
+            after = rest;
+            place = place;
+            none_since = All-from_contains (λ x. IsReleaseOf p x → ⊥) rest
+                (λ x has. All-contains (λ y. IsReleaseOf p y → ⊥) (rest ++ e ∷ []) x since (Contains-append_left rest (e ∷ []) x has));
+          } in
+          let known = Grant-enrolled time context number a until h legal (IsInEffect-contains h p grant before) in
           let behind = pledge_of-append h (e ∷ []) context known.0 known.1 in
           let same = one_pledge (h ++ e ∷ []) context known.0 p behind pledge in
-          inl (time, context, number, until, old, known.1 ∙ ap (λ x. Some x) same, later)
-      | inr new ↦
+          inl (
+            (time, context, number, until, before, known.1 ∙ ap (λ x. Some x) same, later),
+            All-contains (λ y. IsReleaseOf p y → ⊥) (rest ++ e ∷ []) e since (Contains-middle rest e []),
+          )
+      | Last whole new after ↦
           let granted = subst (λ x. MayFollow h x) new may in
           let behind = pledge_of-append h (e ∷ []) context granted.0 granted.2.enrolled in
           let same = one_pledge (h ++ e ∷ []) context granted.0 p behind pledge in

@@ -2,7 +2,7 @@
 use Rattle.std.proofs.Common.{◌≡◌, ℕ, ◌^◌, ◌<◌, ◌≤◌, List, [], ◌∷◌, ◌++◌, unwrap_or, arith}
 use Rattle.std.proofs.lemmas.List.Sums.{fold_push}
 use Rattle.journal_text.specs.declared.entry.Entry.{Entry}
-use Rattle.journal_text.specs.declared.entry.Entry.TheVariants.{Settings, Enroll, Grant, Refuse}
+use Rattle.journal_text.specs.declared.entry.Entry.TheVariants.{Settings, Enroll, Grant, Refuse, Block, Roll, Given, Stale, Switch, Release}
 use Rattle.join_history.specs.Times.{time_of, last_time, moment}
 use Rattle.join_history.specs.Legal.{IsLegal, MayFollow, IsTimely}
 use Rattle.join_history.proofs.LegalLemmas.{legal_induction}
@@ -17,7 +17,12 @@ last_time-rises h (Settings time settings) may = rw last_time-push may.0.not_bef
 last_time-rises h (Enroll context id check) may = rw last_time-push (omega arith)
 last_time-rises h (Grant time context number address until) may = rw last_time-push may.2.timely.not_before
 last_time-rises h (Refuse time context number why) may = rw last_time-push may.2.timely.not_before
-last_time-rises h _ may = absurd may
+last_time-rises h (Block context to) may = rw last_time-push (omega arith)
+last_time-rises h (Roll time set) may = rw last_time-push may.0.not_before
+last_time-rises h (Given time context number epoch) may = rw last_time-push may.2.0.not_before
+last_time-rises h (Stale time id epoch) may = rw last_time-push may.0.0.not_before
+last_time-rises h (Switch time epoch) may = rw last_time-push may.0.not_before
+last_time-rises h (Release time id) may = rw last_time-push may.0.not_before
 
 -- an entry that may follow fits the clock's 40 bits
 last_time-push-lt : (h : List Entry) (e : Entry) → MayFollow h e → last_time h < 2 ^ 40
@@ -26,7 +31,12 @@ last_time-push-lt h (Settings time settings) may fits = rw last_time-push may.0.
 last_time-push-lt h (Enroll context id check) may fits = rw last_time-push fits
 last_time-push-lt h (Grant time context number address until) may fits = rw last_time-push may.2.timely.fits
 last_time-push-lt h (Refuse time context number why) may fits = rw last_time-push may.2.timely.fits
-last_time-push-lt h _ may fits = absurd may
+last_time-push-lt h (Block context to) may fits = rw last_time-push fits
+last_time-push-lt h (Roll time set) may fits = rw last_time-push may.0.fits
+last_time-push-lt h (Given time context number epoch) may fits = rw last_time-push may.2.0.fits
+last_time-push-lt h (Stale time id epoch) may fits = rw last_time-push may.0.0.fits
+last_time-push-lt h (Switch time epoch) may fits = rw last_time-push may.0.fits
+last_time-push-lt h (Release time id) may fits = rw last_time-push may.0.fits
 
 -- the last time of a legal history fits 40 bits
 pub last_time-lt : (h : List Entry) → IsLegal h → last_time h < 2 ^ 40

@@ -1,14 +1,20 @@
 -- The numbers of a context, and which numbers are fresh (RFC 8613, 7.4, told of the whole list).
-use Rattle.std.specs.Prelude.{◌≡◌, ℕ, ◌+◌, ◌<◌, List, Any}
+use Rattle.std.specs.Prelude.{◌≡◌, ℕ, ◌+◌, ◌<◌, List, Some, Any}
+use Rattle.edge_traits.specs.declared.names.PledgeId.{PledgeId}
 use Rattle.journal_text.specs.declared.entry.Entry.{Entry}
 use Rattle.journal_text.specs.declared.entry.Entry.TheVariants.{Grant, Refuse}
 use Rattle.join_history.specs.Last.{IsLast}
+use Rattle.join_history.specs.Contexts.{pledge_of}
 
 -- the entry decides the request of this context and number
 abbrev pub IsDecision : ℕ → ℕ → Entry → Type 0
 IsDecision c n (Grant time context number address until) = (context ≡ c) × (number ≡ n)
 IsDecision c n (Refuse time context number why) = (context ≡ c) × (number ≡ n)
 IsDecision c n _ = ⊥
+
+-- the entry decides a request of a context of the pledge
+abbrev pub IsDecisionFor : List Entry → PledgeId → Entry → Type 0
+IsDecisionFor h p e = (c n : ℕ) × IsDecision c n e × (pledge_of h c ≡ Some p)
 
 -- the number is one of those that were decided for the context
 abbrev pub HasNumber : List Entry → ℕ → ℕ → Type 0

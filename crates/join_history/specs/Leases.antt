@@ -1,9 +1,9 @@
 -- Which pledge holds which short address. An address stays held for a grace of 3600 seconds behind its lease's end.
-use Rattle.std.specs.Prelude.{◌≡◌, ◌≢◌, ◌==◌, if◌then◌else◌, ℕ, ◌+◌, ◌-◌, ◌*◌, ◌^◌, ◌<◌, ◌≤◌, ◌⊎◌, List, Option, Some, None, Contains, fold}
+use Rattle.std.specs.Prelude.{◌≡◌, ◌≢◌, ◌==◌, if◌then◌else◌, ℕ, ◌+◌, ◌-◌, ◌*◌, ◌^◌, ◌<◌, ◌≤◌, ◌⊎◌, List, ◌∷◌, ◌++◌, Option, Some, None, All, fold}
 use Rattle.edge_traits.specs.declared.names.PledgeId.{PledgeId}
 use Rattle.journal_text.specs.declared.settings.Settings.{Settings}
 use Rattle.journal_text.specs.declared.entry.Entry.{Entry}
-use Rattle.journal_text.specs.declared.entry.Entry.TheVariants.{Settings as SettingsEntry, Grant}
+use Rattle.journal_text.specs.declared.entry.Entry.TheVariants.{Settings as SettingsEntry, Grant, Release}
 use Rattle.join_history.specs.Last.{IsLast}
 use Rattle.join_history.specs.Contexts.{pledge_of}
 
@@ -20,20 +20,37 @@ current_settings h = fold settings_after None h
 abbrev pub lease_end : ℕ → ℕ → ℕ
 lease_end time hours = if hours == 0 then 2 ^ 64 - 1 else time + 3600 * hours
 
--- At t the pledge holds the address: some Grant of it to the pledge ends less than 3600 seconds before t, or later.
-abbrev pub Holds : List Entry → ℕ → ℕ → PledgeId → Type 0
-Holds h t a p = (time context number until : ℕ) × Contains h (Grant time context number a until)
-    × (pledge_of h context ≡ Some p) × (t < until + 3600)
-
 -- the entry is a Grant to the pledge
 abbrev pub IsGrantTo : List Entry → PledgeId → Entry → Type 0
 IsGrantTo h p (Grant time context number address until) = pledge_of h context ≡ Some p
 IsGrantTo h p _ = ⊥
 
--- At t the pledge's lease is live: its last Grant is of this address and ends behind t.
+-- the entry is a Release of the pledge
+abbrev pub IsReleaseOf : PledgeId → Entry → Type 0
+IsReleaseOf p (Release time id) = id ≡ p
+IsReleaseOf p _ = ⊥
+
+-- the entry stands in the history, and no Release of the pledge comes after it
+pub record IsInEffect (h : List Entry) (p : PledgeId) (e : Entry) : Type 0 where
+  pub before : List Entry
+  pub after : List Entry
+  pub place : h ≡ before ++ e ∷ after
+  pub none_since : All (λ x. IsReleaseOf p x → ⊥) after
+
+-- At t the pledge holds the address: some Grant of it to the pledge is in effect, and ends less than 3600 seconds before
+-- t, or later.
+abbrev pub Holds : List Entry → ℕ → ℕ → PledgeId → Type 0
+Holds h t a p = (time context number until : ℕ) × IsInEffect h p (Grant time context number a until)
+    × (pledge_of h context ≡ Some p) × (t < until + 3600)
+
+-- the entry gives the pledge a lease, or takes its leases back
+abbrev pub IsLeaseOf : List Entry → PledgeId → Entry → Type 0
+IsLeaseOf h p e = IsGrantTo h p e ⊎ IsReleaseOf p e
+
+-- At t the pledge's lease is live: its last Grant is of this address, is in effect and ends after t.
 abbrev pub IsLive : List Entry → ℕ → PledgeId → ℕ → Type 0
 IsLive h t p a = (time context number until : ℕ)
-    × IsLast (IsGrantTo h p) h (Grant time context number a until) × (t < until)
+    × IsLast (IsLeaseOf h p) h (Grant time context number a until) × (t < until)
 
 abbrev pub IsNotLive : List Entry → ℕ → PledgeId → Type 0
 IsNotLive h t p = (a : ℕ) → IsLive h t p a → ⊥

@@ -1,5 +1,5 @@
 -- Legal histories: each entry may follow the entries before it.
-use Rattle.std.specs.Prelude.{◌≡◌, ◌+◌, ◌^◌, ◌<◌, ◌≤◌, ℕ, List, ◌∷◌, ◌++◌, Some}
+use Rattle.std.specs.Prelude.{◌≡◌, ◌+◌, ◌^◌, ◌<◌, ◌≤◌, ◌⊎◌, ℕ, List, ◌∷◌, ◌++◌, Some, Contains}
 use Rattle.edge_traits.specs.declared.names.PledgeId.{PledgeId}
 use Rattle.journal_text.specs.declared.settings.Settings.{Settings}
 use Rattle.journal_text.specs.declared.refusal.Refusal.{Refusal}
@@ -7,10 +7,13 @@ use Rattle.journal_text.specs.declared.refusal.Refusal.TheVariants as refusal
 use Rattle.journal_text.specs.Codes.{IsReason}
 use Rattle.journal_text.specs.declared.entry.Entry.{Entry}
 use Rattle.journal_text.specs.declared.entry.Entry.TheVariants.{Settings as SettingsEntry, Enroll, Grant, Refuse, Block, Roll, Given, Stale, Switch, Release}
-use Rattle.join_history.specs.Times.{last_time}
+use Rattle.join_history.specs.Times.{time_of, last_time}
 use Rattle.join_history.specs.Contexts.{pledge_of, context_count, HasCheck}
-use Rattle.join_history.specs.Decisions.{IsFresh}
-use Rattle.join_history.specs.Leases.{current_settings, lease_end, IsDueAddress, HasNoAddress}
+use Rattle.join_history.specs.Decisions.{IsFresh, IsDecisionFor}
+use Rattle.join_history.specs.Blocks.{block_end}
+use Rattle.join_history.specs.Phases.{phase, IsSpreading, IsNextSet}
+use Rattle.join_history.specs.Epochs.{Has, IsStaleFor}
+use Rattle.join_history.specs.Leases.{current_settings, lease_end, Holds, IsLive, IsDueAddress, HasNoAddress}
 
 -- a pool within 0x0001 to 0xFFFD, and a lease of up to 65535 hours, or 0 for one without end
 pub record IsInRange (settings : Settings) : Type 0 where
@@ -36,6 +39,15 @@ pub record MayDecide (g : List Entry) (time context number : ℕ) (pledge : Pled
 abbrev pub IsTrueReason : List Entry → ℕ → PledgeId → Refusal → Type 0
 IsTrueReason g time pledge why = IsReason why × (why ≡ refusal.NoAddress → HasNoAddress g time pledge)
 
+-- at this time the keys of the epoch are being handed out, and the pledge is live and hasn't them
+abbrev pub Lacks : List Entry → ℕ → PledgeId → ℕ → Type 0
+Lacks g time pledge epoch = IsTimely g time × IsSpreading (phase g) epoch × ((a : ℕ) × IsLive g time pledge a)
+    × (Has g pledge epoch → ⊥)
+
+-- the decision was made more than 600 seconds before
+abbrev pub HasAged : Entry → ℕ → Type 0
+HasAged e time = (made : ℕ) × (time_of e ≡ Some made) × (made + 600 < time)
+
 -- the entry may follow the history g
 abbrev pub MayFollow : List Entry → Entry → Type 0
 MayFollow g (SettingsEntry time settings) = IsTimely g time × IsInRange settings
@@ -45,13 +57,16 @@ MayFollow g (Grant time context number address until) = (pledge : PledgeId) × (
     × IsDueAddress g time pledge address × (until ≡ lease_end time settings.hours)
 MayFollow g (Refuse time context number why) = (pledge : PledgeId) × (settings : Settings)
     × MayDecide g time context number pledge settings × IsTrueReason g time pledge why
--- these aren't decided yet
-MayFollow g (Block context to) = ⊥
-MayFollow g (Roll time set) = ⊥
-MayFollow g (Given time context number epoch) = ⊥
-MayFollow g (Stale time id epoch) = ⊥
-MayFollow g (Switch time epoch) = ⊥
-MayFollow g (Release time id) = ⊥
+MayFollow g (Block context to) = (pledge : PledgeId) × (pledge_of g context ≡ Some pledge)
+    × (to ≡ block_end g context + 64) × (to ≤ 2 ^ 40)
+MayFollow g (Roll time set) = IsTimely g time × IsNextSet (phase g) set
+MayFollow g (Given time context number epoch) = (pledge : PledgeId) × (pledge_of g context ≡ Some pledge)
+    × Lacks g time pledge epoch × (number < block_end g context)
+MayFollow g (Stale time id epoch) = Lacks g time id epoch × (IsStaleFor g id epoch → ⊥)
+MayFollow g (Switch time epoch) = IsTimely g time × IsSpreading (phase g) epoch
+    × ((p : PledgeId) (a : ℕ) → IsLive g time p a → Has g p epoch ⊎ IsStaleFor g p epoch)
+MayFollow g (Release time id) = IsTimely g time × ((a : ℕ) × Holds g time a id)
+    × ((e : Entry) → Contains g e → IsDecisionFor g id e → HasAged e time)
 
 -- each entry may follow the entries before it
 abbrev pub IsLegal : List Entry → Type 0

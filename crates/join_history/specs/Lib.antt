@@ -3,7 +3,15 @@ pub mod Times
 pub mod Contexts
 pub mod Decisions
 pub mod Leases
+pub mod Blocks
+pub mod Phases
+pub mod Epochs
 pub mod Legal
 pub mod Due
+pub mod Answers
+pub mod Updates
+pub mod Summary
+pub mod SummaryLaws
+pub mod Examples
 pub mod Laws
 pub mod Opening

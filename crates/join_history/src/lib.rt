@@ -1,10 +1,14 @@
-// Legal histories: which entries may follow which, what is held, live and free, and what a request is due.
-// It promises the layers above the laws of every legal history, as the clauses of `history_laws`.
-// Definitions are in specs/, one file for each question; every layer above cites them.
+// Legal histories: which entries may follow which, what is held, live and free, what a request is due, who has which keys,
+// and what a summary keeps. It promises the layers above the laws of every legal history, as the clauses of functions that
+// do nothing. Definitions are in specs/, one file for each question; every layer above cites them.
 #![tactic(auto)]
 
 mod due;
+mod job;
 mod laws;
 
 pub use due::{Due, Quiet, Want};
-pub use laws::history_laws;
+pub use job::Job;
+pub use laws::{
+    answer_laws, history_examples, history_laws, key_laws, lease_laws, opening_laws, summary_law,
+};

@@ -11,6 +11,7 @@ mod part;
 mod read;
 mod refusal;
 mod settings;
+mod summary;
 #[cfg(test)]
 mod tests;
 mod write;
@@ -21,4 +22,5 @@ pub use laws::entry_law;
 pub use read::read_entry;
 pub use refusal::Refusal;
 pub use settings::Settings;
+pub use summary::{RegSummary, SumContext, SumGrant, SumNode, SumRequest};
 pub use write::write_entry;

@@ -5,7 +5,7 @@ use Rattle.std.specs.Prelude.{not}
 use Rattle.std.proofs.lemmas.Bool.{eqb-true, eq-eqb, false≢true, not-true, not-false}
 use Rattle.edge_traits.specs.declared.names.PledgeId.{PledgeId}
 use Rattle.journal_text.specs.declared.entry.Entry.{Entry}
-use Rattle.join_history.specs.Leases.{IsDueAddress, HasNoAddress}
+use Rattle.join_history.specs.Leases.{IsLive, IsNotLive, IsDueAddress, HasNoAddress}
 use Rattle.join_history.proofs.LeaseLemmas.{IsDueAddress-unique, no_address_due}
 
 -- the due address is the one that was answered
@@ -29,3 +29,9 @@ HasNoAddress-answered h t p (Some x) b due is = (
   λ yes. absurd (false≢true (sym (not-true b (sym is)) ∙ yes)),
   λ none. absurd (no_address_due h t p x none due),
 )
+
+-- the lease is live exactly where a live address was answered
+pub live_answered : (h : List Entry) (t : ℕ) (p : PledgeId) (r : Option ℕ) (b : Bool)
+    → MatchOption r (IsNotLive h t p) (λ a. IsLive h t p a) → b ≡ is_some r → IsTrue b ↔ ((a : ℕ) × IsLive h t p a)
+live_answered h t p None b not is = (λ yes. absurd (false≢true (sym is ∙ yes)), λ live. absurd (not live.0 live.1))
+live_answered h t p (Some a) b live is = (λ yes. (a, live), λ _. is)

@@ -3,3 +3,4 @@ mod Freshness
 mod AddressAnswers
 mod AddableLemmas
 pub mod StateLemmas
+pub mod ScanLemmas

@@ -16,7 +16,7 @@ use join_history::{Due, Quiet, Want};
 use journal_text::{Entry, Refusal};
 
 /// The seconds for which a repeat of the last request gets its answer again.
-const REPEAT_SPAN: u64 = 600;
+pub const REPEAT_SPAN: u64 = 600;
 
 /// When the last request of the context was decided, where it has this number.
 fn repeat_time(entries: &[Entry], context: u32, number: u64) -> Option<u64>

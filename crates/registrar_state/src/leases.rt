@@ -1,10 +1,10 @@
 //! Which pledge holds which short address.
-ghost use Rattle.std.specs.Prelude.{◌≡◌, ◌↔◌, ◌<◌, ◌≤◌, ◌^◌, ◌+◌, ℕ, Some, IsTrue, MatchOption};
+ghost use Rattle.std.specs.Prelude.{◌≡◌, ◌↔◌, ◌<◌, ◌≤◌, ◌^◌, ◌+◌, ℕ, Some, IsTrue, MatchOption, Any};
 ghost use Rattle.std.specs.Option.{option_copied};
 ghost use Rattle.journal_text.specs.declared.entry.Entry.{Entry};
 ghost use Rattle.join_history.specs.Last.{IsLast};
 ghost use Rattle.join_history.specs.Leases as spec;
-ghost use Rattle.registrar_state.specs.Scans.{IsAnothers};
+ghost use Rattle.registrar_state.specs.Scans.{AnyPlace, IsKeptByAnother, IsAnothers, IsOwn, IsLiveBy};
 
 use crate::contexts::pledge_of;
 use edge_traits::PledgeId;
@@ -27,9 +27,40 @@ pub fn current_settings(entries: &[Entry]) -> Option<&Settings>
     current
 }
 
-fn is_anothers(entries: &[Entry], entry: &Entry, at: u64, address: u16, pledge: PledgeId) -> bool
+fn is_release_of(entry: &Entry, pledge: PledgeId) -> bool
+    ensures { IsTrue result ↔ spec.IsReleaseOf pledge entry.now }
+{
+    match entry {
+        Entry::Release { id, .. } => *id == pledge,
+        _ => false,
+    }
+}
+
+fn is_released(after: &[Entry], pledge: PledgeId) -> bool
+    ensures { IsTrue result ↔ Any (spec.IsReleaseOf pledge) after.now }
+{
+    after.iter().any(|entry| is_release_of(entry, pledge))
+}
+
+fn is_kept_by_another(entries: &[Entry], after: &[Entry], context: u32, pledge: PledgeId) -> bool
+    ensures { IsTrue result ↔ IsKeptByAnother entries.now pledge context after.now }
+{
+    match pledge_of(entries, context) {
+        Some(other) => other != pledge && !is_released(after, other),
+        None => false,
+    }
+}
+
+fn is_anothers(
+    entries: &[Entry],
+    entry: &Entry,
+    after: &[Entry],
+    at: u64,
+    address: u16,
+    pledge: PledgeId,
+) -> bool
     requires { at < 2 ^ 40 }
-    ensures { IsTrue result ↔ IsAnothers entries.now at address pledge entry.now }
+    ensures { IsTrue result ↔ IsAnothers entries.now at address pledge entry.now after.now }
 {
     match entry {
         Entry::Grant {
@@ -40,22 +71,70 @@ fn is_anothers(entries: &[Entry], entry: &Entry, at: u64, address: u16, pledge: 
         } => {
             *a == address
                 && at < until.saturating_add(GRACE)
-                && matches!(pledge_of(entries, *context), Some(other) if other != pledge)
+                && is_kept_by_another(entries, after, *context, pledge)
         }
         _ => false,
     }
+}
+
+fn is_held_in(entries: &[Entry], at: u64, address: u16, pledge: PledgeId) -> bool
+    requires { at < 2 ^ 40 }
+    ensures { IsTrue result ↔ AnyPlace (IsAnothers entries.now at address pledge) entries.now }
+{
+    let mut rest = entries;
+    while let [entry, after @ ..] = rest {
+        if is_anothers(entries, entry, after, at, address, pledge) {
+            return true;
+        }
+        rest = after;
+    }
+    false
 }
 
 pub fn is_held_by_another(entries: &[Entry], at: u64, address: u16, pledge: PledgeId) -> bool
     requires { at < 2 ^ 40 }
     ensures { IsTrue result ↔ spec.IsHeldByAnother entries.now at address pledge }
 {
-    entries
-        .iter()
-        .any(|entry| is_anothers(entries, entry, at, address, pledge))
+    is_held_in(entries, at, address, pledge)
 }
 
-fn is_grant_to(entries: &[Entry], entry: &Entry, pledge: PledgeId) -> bool
+fn is_own(entries: &[Entry], entry: &Entry, after: &[Entry], at: u64, pledge: PledgeId) -> bool
+    requires { at < 2 ^ 40 }
+    ensures { IsTrue result ↔ IsOwn entries.now at pledge entry.now after.now }
+{
+    match entry {
+        Entry::Grant { context, until, .. } => {
+            at < until.saturating_add(GRACE)
+                && pledge_of(entries, *context) == Some(pledge)
+                && !is_released(after, pledge)
+        }
+        _ => false,
+    }
+}
+
+fn holds_in(entries: &[Entry], at: u64, pledge: PledgeId) -> bool
+    requires { at < 2 ^ 40 }
+    ensures { IsTrue result ↔ AnyPlace (IsOwn entries.now at pledge) entries.now }
+{
+    let mut rest = entries;
+    while let [entry, after @ ..] = rest {
+        if is_own(entries, entry, after, at, pledge) {
+            return true;
+        }
+        rest = after;
+    }
+    false
+}
+
+/// Whether the pledge holds some address.
+pub fn holds_some(entries: &[Entry], at: u64, pledge: PledgeId) -> bool
+    requires { at < 2 ^ 40 }
+    ensures { IsTrue result ↔ ((a : ℕ) × spec.Holds entries.now at a pledge) }
+{
+    holds_in(entries, at, pledge)
+}
+
+pub fn is_grant_to(entries: &[Entry], entry: &Entry, pledge: PledgeId) -> bool
     ensures { IsTrue result ↔ spec.IsGrantTo entries.now pledge entry.now }
 {
     match entry {
@@ -64,29 +143,50 @@ fn is_grant_to(entries: &[Entry], entry: &Entry, pledge: PledgeId) -> bool
     }
 }
 
-fn last_grant(entries: &[Entry], pledge: PledgeId) -> Option<&Entry>
-    ensures { MatchOption result ((e : Entry) → IsLast (spec.IsGrantTo entries.now pledge) entries.now e → ⊥)
-        (λ e. IsLast (spec.IsGrantTo entries.now pledge) entries.now e.now) }
+fn is_lease_of(entries: &[Entry], entry: &Entry, pledge: PledgeId) -> bool
+    ensures { IsTrue result ↔ spec.IsLeaseOf entries.now pledge entry.now }
+{
+    is_grant_to(entries, entry, pledge) || is_release_of(entry, pledge)
+}
+
+/// The last Grant to the pledge or Release of it.
+fn last_lease(entries: &[Entry], pledge: PledgeId) -> Option<&Entry>
+    ensures { MatchOption result ((e : Entry) → IsLast (spec.IsLeaseOf entries.now pledge) entries.now e → ⊥)
+        (λ e. IsLast (spec.IsLeaseOf entries.now pledge) entries.now e.now) }
 {
     for place in (0..entries.len()).rev() {
         let entry = &entries[place];
-        if is_grant_to(entries, entry, pledge) {
+        if is_lease_of(entries, entry, pledge) {
             return Some(entry);
         }
     }
     None
 }
 
-fn live_address(entries: &[Entry], at: u64, pledge: PledgeId) -> Option<u16>
-    ensures { MatchOption result (spec.IsNotLive entries.now at pledge) (λ a. spec.IsLive entries.now at pledge a) }
+/// The address of a lease that is live, where this entry was the last to give it or to take it back.
+fn live_by(entry: &Entry, at: u64) -> Option<u16>
+    ensures { MatchOption result ((a : ℕ) → IsLiveBy entry.now at a → ⊥) (IsLiveBy entry.now at) }
 {
-    let Some(entry) = last_grant(entries, pledge) else {
-        return None;
-    };
     match entry {
         Entry::Grant { address, until, .. } if at < *until => Some(*address),
         _ => None,
     }
+}
+
+fn live_address(entries: &[Entry], at: u64, pledge: PledgeId) -> Option<u16>
+    ensures { MatchOption result (spec.IsNotLive entries.now at pledge) (λ a. spec.IsLive entries.now at pledge a) }
+{
+    let Some(entry) = last_lease(entries, pledge) else {
+        return None;
+    };
+    live_by(entry, at)
+}
+
+/// Whether the pledge's lease is live.
+pub fn is_live(entries: &[Entry], at: u64, pledge: PledgeId) -> bool
+    ensures { IsTrue result ↔ ((a : ℕ) × spec.IsLive entries.now at pledge a) }
+{
+    live_address(entries, at, pledge).is_some()
 }
 
 fn least_free(entries: &[Entry], settings: &Settings, at: u64, pledge: PledgeId) -> Option<u16>

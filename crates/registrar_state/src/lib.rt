@@ -3,13 +3,16 @@
 // The definitions are those of join_history; the one relation between a state and a history is in specs/: State.
 #![tactic(auto)]
 
+mod blocks;
 mod contexts;
 mod decisions;
 mod due;
+mod epochs;
 mod last;
 mod leases;
 mod legal;
 mod opening;
+mod phases;
 mod room;
 mod state;
 mod times;

@@ -2,18 +2,18 @@ use Rattle.std.proofs.Common.{◌-◌, arith}
 use Rattle.std.proofs.lemmas.Bool.{both_ways}
 use Rattle.join_history.specs.Leases as spec
 use Rattle.registrar_state.proofs.LastScan.{IsLast-at, IsLast-none, none_from-more}
-use Rattle.registrar_state.proofs.leases.last_grant.Goals as goal
+use Rattle.registrar_state.proofs.leases.last_lease.Goals as goal
 
-pub returns-then-is_grant_to : goal.returns-then-is_grant_to
-returns-then-is_grant_to c =
+pub returns-then-is_lease_of : goal.returns-then-is_lease_of
+returns-then-is_lease_of c =
     IsLast-at _ _ (c.loop-place.place - 1) _ (omega arith) c.index-entries-place.is
-    (c.is_grant_to.ensures.0 c.if-is_grant_to.true)
+    (c.is_lease_of.ensures.0 c.if-is_lease_of.true)
     (λ k d behind small. c.loop-place.invariant k d (omega arith) small)
 
 pub loop-place-preserved : goal.loop-place-preserved
 loop-place-preserved c =
-    none_from-more (spec.IsGrantTo c.args.entries.now c.args.pledge) _ c.loop-place.place _ c.loop-place-test.true (omega arith) c.index-entries-place.is
-    (λ is. both_ways _ c.if-is_grant_to.false (c.is_grant_to.ensures.1 is))
+    none_from-more (spec.IsLeaseOf c.args.entries.now c.args.pledge) _ c.loop-place.place _ c.loop-place-test.true (omega arith) c.index-entries-place.is
+    (λ is. both_ways _ c.if-is_lease_of.false (c.is_lease_of.ensures.1 is))
     c.loop-place.invariant
 
 pub returns : goal.returns
