@@ -6,4 +6,4 @@ pub mod HeaderLemmas
 pub mod MessageLemmas
 pub mod DraftLemmas
 pub mod SpellingLemmas
-mod SizeLemmas
+pub mod SizeLemmas

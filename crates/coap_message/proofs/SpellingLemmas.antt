@@ -9,18 +9,18 @@ use Rattle.coap_message.specs.Laws.{AreBytes}
 use Rattle.coap_message.proofs.ExtendedLemmas.{one_form}
 
 -- the parts of bytes are bytes
-AreBytes-parts : (front rest : List ℕ) → AreBytes (front ++ rest) → AreBytes front × AreBytes rest
+pub AreBytes-parts : (front rest : List ℕ) → AreBytes (front ++ rest) → AreBytes front × AreBytes rest
 AreBytes-parts [] rest are = (tt, are)
 AreBytes-parts (byte ∷ front) rest are = let parts = AreBytes-parts front rest are.1 in ((are.0, parts.0), parts.1)
 
-sized_is : (nibble : ℕ) (spelled value : List ℕ) → AreBytes spelled → IsSized nibble spelled value
+pub sized_is : (nibble : ℕ) (spelled value : List ℕ) → AreBytes spelled → IsSized nibble spelled value
     → (nibble ≡ nibble_of (length value)) × (spelled ≡ extension (length value) ++ value)
 sized_is nibble spelled value are is =
     let parts = AreBytes-parts is.more value (subst AreBytes is.spelled_is are) in
     let one = one_form (length value) nibble is.more parts.0 is.length_is in
     (one.0, is.spelled_is ∙ ap (λ (m : List ℕ). m ++ value) one.1)
 
-option_is : (last : ℕ) (spelled : List ℕ) (option : ℕ × List ℕ) → AreBytes spelled → IsOption last spelled option
+pub option_is : (last : ℕ) (spelled : List ℕ) (option : ℕ × List ℕ) → AreBytes spelled → IsOption last spelled option
     → spelled ≡ option_spelling last option.0 option.1
 option_is last spelled option are is =
     let all = subst AreBytes is.spelled_is are in
@@ -41,7 +41,7 @@ options_one (option ∷ options) last a b are are' is is' =
     let others : is.1 ≡ is'.1 = options_one options option.0 is.1 is'.1 parts.1 parts'.1 is.4 is'.4 in
     is.2 ∙ ap (λ (x : List ℕ). x ++ is.1) first ∙ ap (λ (x : List ℕ). is'.0 ++ x) others ∙ sym is'.2
 
-header_is : (spelled : List ℕ) (h : Header) → AreBytes spelled → IsHeader spelled h → spelled ≡ header_spelling h
+pub header_is : (spelled : List ℕ) (h : Header) → AreBytes spelled → IsHeader spelled h → spelled ≡ header_spelling h
 header_is spelled h are is =
     let all = subst AreBytes is.spelled_is are in
     let token = sized_is is.nibble is.token h.token all.1.1.1.1 is.token_is in

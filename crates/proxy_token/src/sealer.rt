@@ -170,6 +170,21 @@ impl Sealer {
         }
     }
 
+    /// The counter of the next token, at most 2^40.
+    pub fn count(&self) -> u64
+        ensures count { result ≡ self.now.count }
+        ensures most { result ≤ end40 }
+    {
+        self.count
+    }
+
+    /// Whether the counter stands at its end.
+    pub fn is_spent(&self) -> bool
+        ensures { IsTrue result ↔ (self.now.count ≡ end40) }
+    {
+        self.count == END
+    }
+
     fn sealed(&self, plain: ArrayVec<u8, 592>) -> ArrayVec<u8, 592>
         requires { array_vec_len plain ≤ 584 }
         ensures { result.items ≡ sealed self.now.key (nonce_of self.now.count) [] plain.items }

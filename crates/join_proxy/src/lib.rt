@@ -1,0 +1,14 @@
+// A join proxy that keeps nothing for a pledge (RFC 9031, 7; RFC 8974, 3): what it must know of whom an answer is for goes
+// out in the token. It promises the layers above what is forwarded and returned, each refusal with its cause, and that what
+// was forwarded comes back to who asked. Definitions are in specs/: Tokens, Pieces, State, Steps and Laws.
+#![tactic(auto)]
+
+mod bucket;
+mod fault;
+mod laws;
+mod message;
+mod proxy;
+
+pub use fault::{DownFault, UpFault};
+pub use laws::round_trip;
+pub use proxy::Proxy;
