@@ -1,8 +1,8 @@
 -- What a proxy does with a message that was read, and its way back.
-use Rattle.std.proofs.Common.{◌≡◌, ◌⊎◌, ℕ, ◌+◌, ◌%◌, ◌^◌, ◌<◌, ◌≤◌, Bool, true, false, List, [], ◌++◌, length, Result, Ok, Err, refl, sym, ap, subst, ◌∙◌, arith, inl, inr}
+use Rattle.std.proofs.Common.{◌≡◌, ℕ, ◌+◌, ◌%◌, ◌^◌, ◌<◌, ◌≤◌, true, List, [], Result, Ok, Err, sym, ap, subst, ◌∙◌, arith, inl, inr}
 use Rattle.std.specs.Prelude.{◌≢◌, IfOk, IfErr, OnErr}
 use Rattle.edge_traits.specs.declared.names.Peer.{Peer}
-use Rattle.coap_message.specs.Header.{Header, header_spelling}
+use Rattle.coap_message.specs.Header.{Header}
 use Rattle.coap_message.specs.Message.{Packet, IsMessage}
 use Rattle.coap_message.proofs.MessageLemmas.{one_message}
 use Rattle.proxy_token.specs.declared.fault.SealFault.{SealFault}
@@ -14,9 +14,9 @@ use Rattle.join_proxy.specs.declared.bucket.Bucket.{Bucket}
 use Rattle.join_proxy.specs.Tokens.{tokens_at, bucket_after}
 use Rattle.join_proxy.specs.declared.fault.DownFault.{DownFault}
 use Rattle.join_proxy.specs.declared.fault.DownFault.TheVariants.{NotCoap, NotAnswer, NotMine, Late}
-use Rattle.join_proxy.specs.Pieces.{sent, forwarded, returned, changed, text_of, IsRead, IsRequest}
+use Rattle.join_proxy.specs.Pieces.{forwarded, returned, text_of, IsRead, IsRequest}
 use Rattle.join_proxy.specs.State.{Proxying}
-use Rattle.join_proxy.specs.Steps.{Fits, IsSentOn, IsSentBack, IsReturned, HasSameBody, IsKept, IsDownFault, IsDown}
+use Rattle.join_proxy.specs.Steps.{Fits, IsSentOn, IsSentBack, HasSameBody, IsKept, IsDownFault, IsDown}
 use Rattle.join_proxy.specs.Laws.{RoundTrip}
 use Rattle.join_proxy.proofs.Sending.{IsSpelled, sent_all, is_written}
 

@@ -1,18 +1,18 @@
 -- Options that are sent on: their order, and how long they are.
-use Rattle.std.proofs.Common.{◌≡◌, ◌⊎◌, ℕ, suc, ◌+◌, ◌-◌, ◌*◌, ◌<◌, ◌≤◌, Bool, true, false, cond, eqb, List, [], ◌∷◌, ◌++◌, length, get_or, replicate, refl, sym, ap, subst, ◌∙◌, append_assoc, length-append, arith, inl, inr}
+use Rattle.std.proofs.Common.{◌≡◌, ℕ, suc, ◌+◌, ◌-◌, ◌*◌, ◌<◌, ◌≤◌, Bool, true, false, cond, eqb, List, [], ◌∷◌, ◌++◌, length, get_or, replicate, refl, sym, ap, subst, ◌∙◌, append_assoc, length-append, arith}
 use Rattle.std.specs.Prelude.{◌&&◌}
 use Rattle.std.proofs.lemmas.List.{append-nil, length-replicate}
-use Rattle.coap_message.specs.Extended.{IsExtended, IsSized, extension_len}
-use Rattle.coap_message.specs.Options.{IsOption, IsOptions, option_spelling}
+use Rattle.coap_message.specs.Extended.{extension_len}
+use Rattle.coap_message.specs.Options.{IsOptions, option_spelling}
 use Rattle.coap_message.specs.Header.{Header, IsHeader, header_spelling}
 use Rattle.coap_message.specs.Body.{payload_field}
 use Rattle.coap_message.specs.Message.{Packet, IsMessage}
-use Rattle.coap_message.specs.Draft.{Drafted, draft_of, with_option, with_options, with_payload, IsAscending, IsDraftOf}
+use Rattle.coap_message.specs.Draft.{Drafted, draft_of, with_option, with_options, IsAscending}
 use Rattle.coap_message.specs.Laws.{AreBytes}
 use Rattle.coap_message.proofs.SizeLemmas.{header_len, option_len, most_extension}
-use Rattle.coap_message.proofs.DraftLemmas.{IsMessage-written, options_written}
+use Rattle.coap_message.proofs.DraftLemmas.{IsMessage-written}
 use Rattle.coap_message.proofs.SpellingLemmas.{AreBytes-parts, option_is, header_is}
-use Rattle.join_proxy.specs.Pieces.{proxy_scheme, sent, message_with, text_of, need_of, options_len, IsRead}
+use Rattle.join_proxy.specs.Pieces.{sent, message_with, text_of, need_of, options_len, IsRead}
 
 -- ---- order
 

@@ -12,3 +12,6 @@ mod proxy;
 pub use fault::{DownFault, UpFault};
 pub use laws::round_trip;
 pub use proxy::Proxy;
+
+#[cfg(test)]
+mod tests;

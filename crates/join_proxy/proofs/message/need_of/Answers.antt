@@ -1,4 +1,4 @@
-use Rattle.std.proofs.Common.{true, refl, ◌+◌, length, arith}
+use Rattle.std.proofs.Common.{true, refl, ◌+◌, length}
 use Rattle.coap_message.specs.Message.{packet_of}
 use Rattle.join_proxy.proofs.Sending.{need_from}
 use Rattle.join_proxy.proofs.message.need_of.Goals as goal

@@ -1,4 +1,4 @@
-use Rattle.std.proofs.Common.{ap, ◌∙◌, arith, ℕ, List}
+use Rattle.std.proofs.Common.{ap, arith, ℕ, List}
 use Rattle.join_proxy.specs.Pieces.{sent, options_len}
 use Rattle.join_proxy.proofs.Sending.{ascending_sent, ascending_from}
 use Rattle.join_proxy.proofs.message.options_len.Goals as goal

@@ -1,4 +1,4 @@
-use Rattle.std.proofs.Common.{◌≡◌, ◌+◌, ◌≤◌}
+use Rattle.std.proofs.Common.{◌≡◌, ◌+◌}
 use Rattle.coap_message.specs.Message.{packet_of}
 use Rattle.coap_message.specs.OptionsLeft.{options_left}
 use Rattle.coap_message.specs.Draft.{IsAscending}

@@ -1,4 +1,4 @@
-use Rattle.std.proofs.Common.{◌≡◌, ◌≤◌, ◌∷◌, ℕ, List, length, ap, sym, subst, ◌∙◌, arith, false}
+use Rattle.std.proofs.Common.{◌≡◌, ◌≤◌, ◌∷◌, ℕ, List, length, ap, sym, subst, ◌∙◌, arith}
 use Rattle.coap_message.specs.Message.{packet_of}
 use Rattle.coap_message.specs.OptionsLeft.{options_left}
 use Rattle.coap_message.specs.Draft.{Drafted, with_option, with_options, IsAscending}

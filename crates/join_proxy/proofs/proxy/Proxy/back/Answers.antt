@@ -1,6 +1,6 @@
-use Rattle.std.proofs.Common.{◌≡◌, ◌+◌, ◌∙◌, List, ℕ, length, ap, sym, subst, arith, false}
+use Rattle.std.proofs.Common.{◌≡◌, ◌∙◌, List, ℕ, length, ap, sym, subst, arith, false}
 use Rattle.coap_message.specs.Message.{Packet, packet_of}
-use Rattle.proxy_token.specs.Token.{Client, IsToken}
+use Rattle.proxy_token.specs.Token.{IsToken}
 use Rattle.proxy_token.proofs.Tokens.{token_len}
 use Rattle.join_proxy.specs.Pieces.{returned, text_of}
 use Rattle.join_proxy.specs.State.{Proxying}
