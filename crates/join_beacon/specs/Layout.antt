@@ -4,7 +4,8 @@ use Rattle.join_beacon.specs.declared.element.Element.{Element}
 use Rattle.join_beacon.specs.declared.fault.BeaconFault.{BeaconFault}
 use Rattle.join_beacon.specs.declared.fault.BeaconFault.TheVariants.{Short, Subtype, Priority, Network}
 
--- the flags: R in the top bit, P in the next, which says that there is an interface identifier; the rest is ignored
+-- the flags: R in the top bit, P in the next, which says that there is an interface identifier; the
+-- rest is ignored
 abbrev pub asks_routers : ℕ → Bool
 asks_routers flags = flags / 128 == 1
 
@@ -34,7 +35,8 @@ pub record IsElement (bytes : List ℕ) (element : Element) : Type 0 where
 abbrev pub start_of : List ℕ → ℕ
 start_of bytes = if has_interface (slice_index bytes 1) then 14 else 6
 
--- the first fault of the bytes: cut short, another subtype, a proxy priority above 127, a network of no or over 16 bytes
+-- the first fault of the bytes: cut short, another subtype, a proxy priority above 127, a network
+-- of no or over 16 bytes
 abbrev pub IsFault : List ℕ → BeaconFault → Type 0
 IsFault bytes Short = length bytes < start_of bytes
 IsFault bytes Subtype = (start_of bytes ≤ length bytes) × (slice_index bytes 0 ≢ 2)

@@ -1,7 +1,7 @@
 //! The join element: its fields, reading and writing.
 //!
 //! ```text
-//! 02 | R P 000000 | proxy priority | rank priority | PAN priority, 2 bytes | interface identifier, 8 bytes if P | network identifier
+//! 02 | R P 000000 | proxy | rank | PAN, 2 bytes | interface, 8 bytes if P | network, 1 to 16 bytes
 //! ```
 ghost use Rattle.std.specs.Prelude.{◌≡◌, ◌≤◌, ◌<◌, ◌+◌, ◌↔◌, ◌++◌, [], drop, length, ◌⊎◌, IfOk, IfErr, IfSome, OnOk, OnErr, Ok, Err};
 ghost use Rattle.arrayvec.specs.ArrayVec.{array_vec_len};

@@ -1,6 +1,6 @@
-// The join element of a beacon (its fields follow RFC 9032, its layout is this project's own).
-// It promises the layers above that exactly the elements of the layout are read, that a refusal is the first fault, and
-// that what is written is read back as the same. Definitions are in specs/: Layout and Reading.
+//! The join element of a beacon (its fields follow RFC 9032, its layout is this project's own).
+//! It promises that exactly the elements of the layout are read, that a refusal is the first fault,
+//! and that what is written is read back. Definitions are in specs/: Layout and Reading.
 #![tactic(auto)]
 
 mod element;

@@ -8,8 +8,9 @@ use Rattle.join_proxy.specs.Pieces.{returned, changed}
 use Rattle.join_proxy.specs.State.{Proxying}
 use Rattle.join_proxy.specs.Steps.{IsSentOn, IsDown}
 
--- What a proxy sent on comes back: an answer with the token that was sent, at most 600 seconds later or earlier, goes to the
--- peer that asked, under the token that it asked with. Any state of the proxy under the same key does it.
+-- What a proxy sent on comes back: an answer with the token that was sent, at most 600 seconds
+-- later or earlier, goes to the peer that asked, under the token that it asked with. Any state of
+-- the proxy under the same key does it.
 abbrev pub RoundTrip : Type 0
 RoundTrip =
     (before after : Proxying) (peer : Peer) (size now : ℕ) (out : List ℕ) (asked : Packet) (f : IsSentOn before after peer asked size now out)

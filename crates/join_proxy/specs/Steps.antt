@@ -16,8 +16,9 @@ use Rattle.join_proxy.specs.State.{Proxying}
 abbrev pub Fits : Packet → Type 0
 Fits m = (length m.header.token ≤ most_token) × (need_of m ≤ 1280)
 
--- A request of so many bytes goes on: what it costs is there, and what is sent is it under a sealed token and the next message
--- ID, without Proxy-Scheme. One counter and one message ID are used, and the bucket has lost the bytes.
+-- A request of this size goes on: what it costs is there, and what is sent is it under a sealed
+-- token and the next message ID, without Proxy-Scheme. One counter and one message ID are used, and
+-- the bucket has lost the bytes.
 pub record IsSentOn (old new : Proxying) (peer : Peer) (asked : Packet) (size now : ℕ) (out : List ℕ) : Type 0 where
   pub token : List ℕ
   pub is_request : IsRequest asked
@@ -36,7 +37,7 @@ pub record IsSentOn (old new : Proxying) (peer : Peer) (asked : Packet) (size no
 abbrev pub IsForwarded : Proxying → Proxying → Peer → List ℕ → ℕ → List ℕ → Type 0
 IsForwarded old new peer bytes now out = (asked : Packet) × IsMessage bytes asked × IsSentOn old new peer asked (length bytes) now out
 
--- why a message of so many bytes doesn't go on, the first that applies
+-- why a message of this size doesn't go on, the first that applies
 abbrev pub IsHeld : Proxying → Packet → ℕ → ℕ → UpFault → Type 0
 IsHeld old m size now up.NotCoap = ⊥
 IsHeld old m size now up.NotRequest = IsRequest m → ⊥
@@ -53,8 +54,8 @@ abbrev pub IsUpFault : Proxying → List ℕ → ℕ → UpFault → Type 0
 IsUpFault old bytes now fault =
     ((fault ≡ up.NotCoap) × ((m : Packet) → IsMessage bytes m → ⊥)) ⊎ ((m : Packet) × IsMessage bytes m × IsHeld old m (length bytes) now fault)
 
--- An answer comes back: its token is a sealing under the key that is in time, and what is sent is it under the client's token
--- and the next message ID. One message ID is used.
+-- An answer comes back: its token is a sealing under the key that is in time, and what is sent is
+-- it under the client's token and the next message ID. One message ID is used.
 pub record IsSentBack (old new : Proxying) (answer : Packet) (now : ℕ) (out : List ℕ) (peer : Peer) : Type 0 where
   pub client : Client
   pub is_changed : answer.header.code ≡ changed
@@ -65,7 +66,7 @@ pub record IsSentBack (old new : Proxying) (answer : Packet) (now : ℕ) (out : 
   pub is_sent : IsMessage out (returned old.mid client.token answer)
   pub after : new ≡ record old { mid = (old.mid + 1) % 2 ^ 16 }
 
--- what stands behind the header and the token of the one stands behind those of the other, byte for byte
+-- after header and token both have the same bytes
 pub record HasSameBody (bytes : List ℕ) (m : Packet) (out : List ℕ) (h : Header) : Type 0 where
   pub header : List ℕ
   pub body : List ℕ

@@ -10,7 +10,8 @@ pub enum UpFault {
     /// It is no POST, confirmable or not, with Proxy-Scheme `coap` once.
     #[error("the message is no request for a proxy")]
     NotRequest,
-    /// The client's token has this many bytes, more than 561, or the datagram to forward would have, more than 1280.
+    /// The client's token has this many bytes, more than 561, or the datagram to forward would
+    /// have, more than 1280.
     #[error("the message needs {0} bytes")]
     TooLong(usize),
     /// All of these counters are used.

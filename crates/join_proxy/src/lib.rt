@@ -1,6 +1,6 @@
-// A join proxy that keeps nothing for a pledge (RFC 9031, 7; RFC 8974, 3): what it must know of whom an answer is for goes
-// out in the token. It promises the layers above what is forwarded and returned, each refusal with its cause, and that what
-// was forwarded comes back to who asked. Definitions are in specs/: Tokens, Pieces, State, Steps and Laws.
+//! A join proxy that keeps nothing for a pledge (RFC 9031, 7; RFC 8974, 3).
+//! It promises what is sent on and sent back, each refusal with its cause, and that an answer comes
+//! back to who asked. Definitions are in specs/: Tokens, Pieces, State, Steps and Laws.
 #![tactic(auto)]
 
 mod bucket;

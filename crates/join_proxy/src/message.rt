@@ -1,4 +1,5 @@
-//! Messages: whether one is a request for a proxy, how long it would be, and writing it under another header.
+//! Messages: whether one is a request for a proxy, how long it would be, and writing it under
+//! another header.
 ghost use Rattle.std.specs.Prelude.{◌≡◌, ◌≤◌, ◌<◌, ◌+◌, ◌↔◌, length, IsTrue, ◌∷◌, [], ◌⊎◌, ◌&&◌, ◌==◌};
 ghost use Rattle.coap_message.specs.Extended.{extension_len};
 ghost use Rattle.coap_message.specs.Body.{payload_field};

@@ -44,7 +44,8 @@ impl Model for Proxy {
 }
 
 impl Proxy {
-    /// A proxy under a fresh key. Its bucket gains this rate in bytes a second and holds these tokens, as far as it can.
+    /// A proxy under a fresh key. Its bucket gains this rate in bytes a second and holds these
+    /// tokens, as far as it can.
     pub fn new(key: &[u8; 16], rate: u32, tokens: u64, now: u64) -> Proxy
         ensures { result ≡ record { sealing = record { key = key.now; count = 0 }; bucket = bucket_of rate tokens now; mid = 0 } }
     {
@@ -64,7 +65,7 @@ impl Proxy {
         mid
     }
 
-    /// Whether a request of so many bytes may go on.
+    /// Whether a request of `size` bytes may go on.
     fn judge(&self, message: &Message<'_>, size: usize, now: u64) -> Result<(), UpFault>
         requires { IsRead (packet_of message.now) }
         ensures ok { OnOk result (IsRequest (packet_of message.now) × Fits (packet_of message.now) × (self.now.sealing.count ≢ end40)
@@ -142,7 +143,8 @@ impl Proxy {
         Ok(())
     }
 
-    /// Puts the request to send on in place of what `out` held. A refusal leaves `out` empty and changes nothing.
+    /// Puts the request to send on in place of what `out` held. A refusal leaves `out` empty and
+    /// changes nothing.
     pub fn up(
         &mut self,
         peer: Peer,
@@ -207,8 +209,8 @@ impl Proxy {
         }
     }
 
-    /// Puts the answer to send back in place of what `out` held, and gives the peer that it is for. A refusal leaves `out`
-    /// empty and changes nothing.
+    /// Puts the answer to send back in place of what `out` held, and gives the peer that it is for.
+    /// A refusal leaves `out` empty and changes nothing.
     pub fn down(
         &mut self,
         bytes: &[u8],

@@ -15,7 +15,8 @@ const PEER: Peer = Peer([
     1, 2, 3, 4, 5, 6, 7, 8, 9, 10, 11, 12, 13, 14, 15, 16, 17, 18,
 ]);
 
-/// A Join Request of the pledge a1, number 0, for the network cafe, as OSCORE protects it: 60 bytes.
+/// A Join Request of the pledge a1, number 0, for the network cafe, as OSCORE protects it: 60
+/// bytes.
 const REQUEST: &[u8] =
     b"\x48\x02\x00\x01\x01\x02\x03\x04\x05\x06\x07\x08\x3b\x36\x74\x69\x73\x63\x68\x2e\x61\x72\x70\x61\x6b\x19\x00\x08\x00\x00\x00\x00\x00\x00\x00\xa1\xd4\x11\x63\x6f\x61\x70\xff\xcb\xed\x2a\x7c\x0f\x1d\x37\x52\x70\x6b\xef\x33\x96\x19\x88\xd0\x6f";
 /// The same on its way to the registrar, sealed at second 1000.
@@ -114,7 +115,8 @@ fn other_datagrams_do_not_go_on(rt: HostRuntime) {
     }
 }
 
-/// A bucket's rate, its tokens and the time, each after second 1000, and the tokens that are there then.
+/// A bucket's rate, its tokens and the time, each after second 1000, and the tokens that are there
+/// then.
 const BUCKETS: [(u32, u64, u64, Option<u64>); 13] = [
     (10, 0, 1000, Some(0)),
     (10, 0, 1005, Some(50)),

@@ -7,8 +7,9 @@ use Rattle.proxy_token.specs.declared.fault.TokenFault.{TokenFault}
 use Rattle.proxy_token.specs.declared.fault.TokenFault.TheVariants.{NotMine, Late}
 use Rattle.proxy_token.specs.Token.{Client, IsToken, IsInTime, capped, end40, five_bytes, nonce_of}
 
--- The peer, with the client's token, where the bytes are a sealing under this key that is in time; NotMine where they are
--- no sealing under this key; Late, with its second, where they are one that isn't in time.
+-- The peer, with the client's token, where the bytes are a sealing under this key that is in time;
+-- NotMine where they are no sealing under this key; Late, with its second, where they are one that
+-- isn't in time.
 abbrev pub IsAnswer : List ℕ → List ℕ → ℕ → List ℕ → Result Peer TokenFault → Type 0
 IsAnswer key bytes now token (Ok peer) =
     (client : Client) × IsToken key bytes client × IsInTime client.second (capped now) × (client.peer ≡ peer) × (client.token ≡ token)

@@ -4,7 +4,8 @@ use Rattle.std.specs.Int.{w64, to_be_bytes}
 use Rattle.edge_traits.specs.declared.names.Peer.{Peer}
 use Rattle.aes_ccm.specs.Ccm.{sealed}
 
--- what a token says: its counter, the client's peer, the second in which it was sealed, and the client's token
+-- what a token says: its counter, the client's peer, the second in which it was sealed, and the
+-- client's token
 pub record Client : Type 0 where
   pub count : ℕ
   pub peer : Peer

@@ -1,6 +1,6 @@
-// Tokens of a join proxy: what it must know of a client, sealed into the token that it sends on, so that it keeps nothing.
-// It promises the layers above that a token is the sealing of peer, second and the client's token, each under a counter of
-// its own, and that exactly sealings under its key are opened. Definitions are in specs/: Token and Answer.
+//! Tokens of a join proxy: what it must know of a client, sealed into the token that it sends on.
+//! It promises that each token has a counter of its own, and that exactly sealings under the key
+//! are opened, to what was sealed. Definitions are in specs/: Token, Answer and Sealing.
 #![tactic(auto)]
 
 mod fault;

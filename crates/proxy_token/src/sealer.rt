@@ -198,8 +198,8 @@ impl Sealer {
         text
     }
 
-    /// Puts a token in place of what `out` held, and counts on. A refusal leaves `out` empty and changes nothing. A second
-    /// above 2^40 - 1 counts as 2^40 - 1.
+    /// Puts a token in place of what `out` held, and counts on. A refusal leaves `out` empty and
+    /// changes nothing. A second above 2^40 - 1 counts as 2^40 - 1.
     pub fn seal(
         &mut self,
         peer: Peer,
@@ -255,8 +255,8 @@ impl Sealer {
         }
     }
 
-    /// Whom a token is for, and the client's token, which takes the place of what `token` held. A refusal leaves `token`
-    /// empty. A second above 2^40 - 1 counts as 2^40 - 1.
+    /// Whom a token is for, and the client's token, which takes the place of what `token` held. A
+    /// refusal leaves `token` empty. A second above 2^40 - 1 counts as 2^40 - 1.
     pub fn unseal(
         &self,
         bytes: &[u8],
@@ -274,5 +274,27 @@ impl Sealer {
             None => Err(TokenFault::NotMine),
             Some(plain) => deliver(plain.as_slice(), capped(second), token),
         }
+    }
+}
+
+#[cfg(test)]
+mod tests {
+    use super::*;
+
+    // No test counts up to the end, so this one starts there.
+    #[test]
+    fn a_spent_sealer_seals_nothing(rt: HostRuntime) {
+        let mut sealer = Sealer {
+            cipher: Aes128::new(&[0; 16]),
+            count: 0x100_0000_0000,
+        };
+        assert!(rt; sealer.is_spent());
+        let mut out = ArrayVec::new();
+        out.push(1);
+        let refused = sealer.seal(Peer([0; 18]), &[], 7, &mut out);
+        assert_eq!(rt; refused, Err(SealFault::Spent(0x100_0000_0000)));
+        assert_eq!(rt; out.len(), 0);
+        let refused = sealer.seal(Peer([0; 18]), &[0; 562], 7, &mut out);
+        assert_eq!(rt; refused, Err(SealFault::TooLong(562)));
     }
 }

@@ -14,7 +14,8 @@ const PEER: Peer = Peer([
 
 const CLIENT: [u8; 8] = [1, 2, 3, 4, 5, 6, 7, 8];
 
-/// The first token of the key, of second 1000; and the second one, of the last second and without a client's token.
+/// The first token of the key, of second 1000; and the second one, of the last second and without a
+/// client's token.
 const FIRST: &[u8] =
     b"\x00\x00\x00\x00\x00\x00\x00\x00\xd0\xf9\x7e\x43\x37\x54\x6f\x79\x26\xf4\xaa\xc4\x6b\x93\xf7\x91\xd7\xdb\xdc\x58\x8c\xdd\x77\xb6\x00\x33\x11\x48\xcd\xd5\xf0\x31\x7e\x68\xb6\x1d\x4f\xad\x64";
 
@@ -29,6 +30,8 @@ fn tokens_are_those_of_another_make(rt: HostRuntime) -> Result<(), Fail> {
     assert_eq!(rt; out.as_slice(), FIRST);
     sealer.seal(PEER, &[], u64::MAX, &mut out)?;
     assert_eq!(rt; out.as_slice(), SECOND);
+    assert_eq!(rt; sealer.count(), 2);
+    assert!(rt; !sealer.is_spent());
     token_laws();
     Ok(())
 }
