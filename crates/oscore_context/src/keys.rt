@@ -16,7 +16,7 @@ pub struct Keys {
     pub iv: [u8; 13],
 }
 
-// So many bytes for this ID, ID Context and type.
+// `L` bytes for this ID, ID Context and type.
 fn expanded<const L: usize>(
     prk: &[u8; 32],
     id: &[u8],

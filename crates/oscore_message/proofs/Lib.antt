@@ -1,0 +1,9 @@
+pub mod PartialIvs
+pub mod Sealings
+pub mod OptionList
+pub mod OptionValues
+pub mod Aads
+pub mod Findings
+pub mod Answerings
+pub mod Wires
+pub mod BothSides

@@ -1,0 +1,9 @@
+pub mod PartialIv
+pub mod OptionValue
+pub mod Reading
+pub mod Aad
+pub mod Sealing
+pub mod Finding
+pub mod Answering
+pub mod Wire
+pub mod Laws
