@@ -2,6 +2,7 @@
 ghost use Rattle.std.specs.Prelude.{◌≡◌, ◌<◌, length};
 
 use crate::locks::{mutexes, turns};
+use crate::messages::{opens_right, protects_right};
 use aes_ccm::{Aes128, Unsealed};
 use hkdf_sha256::{expand, extract};
 use seq_table::{Draw, Seat, SeqTable};
@@ -41,18 +42,22 @@ pub enum Case {
     Unseal,
     Key,
     Derive,
+    OpenRequest,
+    ProtectAnswer,
     Draw,
     Turn,
     Mutex,
 }
 
 impl Case {
-    pub const ALL: [Case; 8] = [
+    pub const ALL: [Case; 10] = [
         Case::Block,
         Case::Seal,
         Case::Unseal,
         Case::Key,
         Case::Derive,
+        Case::OpenRequest,
+        Case::ProtectAnswer,
         Case::Draw,
         Case::Turn,
         Case::Mutex,
@@ -66,6 +71,8 @@ impl Case {
             "unseal" => Some(Case::Unseal),
             "key" => Some(Case::Key),
             "derive" => Some(Case::Derive),
+            "open_request" => Some(Case::OpenRequest),
+            "protect_answer" => Some(Case::ProtectAnswer),
             "draw" => Some(Case::Draw),
             "turn" => Some(Case::Turn),
             "mutex" => Some(Case::Mutex),
@@ -80,6 +87,8 @@ impl Case {
             Case::Unseal => "unseal",
             Case::Key => "key",
             Case::Derive => "derive",
+            Case::OpenRequest => "open_request",
+            Case::ProtectAnswer => "protect_answer",
             Case::Draw => "draw",
             Case::Turn => "turn",
             Case::Mutex => "mutex",
@@ -94,6 +103,8 @@ impl Case {
             Case::Unseal => unseals(1)[..24] == TEXT[..],
             Case::Key => keys(1) == *ENCRYPTED,
             Case::Derive => derives(1) == *DERIVED,
+            Case::OpenRequest => opens_right(1),
+            Case::ProtectAnswer => protects_right(1),
             Case::Draw => draws(alloc, 2) == Some(1),
             Case::Turn => turns(rt, alloc, 2) == Some(2),
             Case::Mutex => mutexes(rt, 2) == 2,
@@ -109,6 +120,8 @@ impl Case {
             Case::Unseal => unseals(count) != *SEALING,
             Case::Key => keys(count) != *BLOCK,
             Case::Derive => derives(count) != *KEY,
+            Case::OpenRequest => opens_right(count),
+            Case::ProtectAnswer => protects_right(count),
             Case::Draw => draws(alloc, count).is_some(),
             Case::Turn => turns(rt, alloc, count).is_some_and(|held| held != 0),
             Case::Mutex => mutexes(rt, count) != 0,

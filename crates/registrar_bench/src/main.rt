@@ -5,6 +5,7 @@
 
 mod case;
 mod locks;
+mod messages;
 mod status;
 
 use case::Case;
@@ -32,6 +33,10 @@ derive    derives a key of 16 bytes from a secret
 draw      draws a sender sequence number
 turn      takes the lock by turns, and gives it back
 mutex     does the same with a mutex of the library
+open_request
+          opens a request of 23 bytes that was found
+protect_answer
+          protects an answer of 28 bytes
 ";
 
 const VERSION: &str = "registrar_bench 0.1.0\n";
