@@ -11,6 +11,9 @@ use Rattle.join_history.specs.Leases.{IsGrantTo, IsLeaseOf, IsLive}
 use Rattle.join_history.specs.Phases.{switched, phase, IsSpreading}
 use Rattle.join_history.specs.Epochs.{IsGivenTo, IsGrantedSince, Has, IsStaleFor}
 use Rattle.join_history.specs.Legal.{IsLegal}
+use Rattle.std.specs.Int.{w64, from_be_bytes}
+use Rattle.std.proofs.lemmas.Bool.{cases_lt}
+use Rattle.join_history.specs.Updates.{Waits, IsFirstWaiting}
 use Rattle.join_history.proofs.ListLemmas.{middle_append, Contains-in_after, All-from_contains, Any-from_contains}
 use Rattle.join_history.proofs.LastLemmas.{IsLast-push_cases}
 use Rattle.join_history.proofs.LegalLemmas.{IsLegal-prefix}
@@ -119,3 +122,19 @@ switch_leaves_none h time epoch t a p legal later live =
       | inl has ↦ inl (Has-append h (e ∷ []) p epoch has)
       | inr stale ↦ inr (IsStaleFor-push h e p epoch before (λ granted. granted) stale)
     ])
+
+-- one epoch is spread
+one_spread : (keys : Phase) (a b : ℕ) → IsSpreading keys a → IsSpreading keys b → a ≡ b
+one_spread None a b is other = absurd is
+one_spread (Steady set) a b is other = absurd is
+one_spread (Spreading old new) a b is other = sym is ∙ other
+
+-- no pledge that waits has a lower identifier than the first that waits
+pub first_waiting_is_least : (h : List Entry) (t epoch : ℕ) (p q : PledgeId) → IsFirstWaiting h t p → Waits h t q epoch
+    → from_be_bytes w64 p.0 ≤ from_be_bytes w64 q.0
+first_waiting_is_least h t epoch p q is waits =
+    let same = one_spread (phase h) epoch is.epoch waits.spreading is.waits.spreading in
+    elim (cases_lt (from_be_bytes w64 q.0) (from_be_bytes w64 p.0)) [
+      | inl less ↦ absurd (is.first q (subst (Waits h t q) same waits) less)
+      | inr least ↦ least
+    ]

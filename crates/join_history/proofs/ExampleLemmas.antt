@@ -5,7 +5,7 @@ use Rattle.std.proofs.lemmas.List.Elements.{All-nil, All-cons}
 use Rattle.edge_traits.specs.declared.names.PledgeId.{PledgeId}
 use Rattle.journal_text.specs.declared.settings.Settings.{Settings}
 use Rattle.journal_text.specs.declared.entry.Entry.{Entry}
-use Rattle.journal_text.specs.declared.entry.Entry.TheVariants.{Block, Stale}
+use Rattle.journal_text.specs.declared.entry.Entry.TheVariants.{Block, Stale, Given}
 use Rattle.journal_text.specs.declared.entry.Entry.TheVariants.{Settings as SettingsEntry, Enroll, Grant, Roll}
 use Rattle.join_history.specs.Last.{IsLast}
 use Rattle.join_history.specs.Decisions.{IsDecision, IsDecisionFor, HasNumber, IsLastDecision}
@@ -13,7 +13,7 @@ use Rattle.join_history.specs.Leases.{lease_end, IsGrantTo, IsReleaseOf, IsInEff
 use Rattle.join_history.specs.Epochs.{IsRollOf, IsGivenTo, IsStaleOf, Has, IsStaleFor}
 use Rattle.join_history.specs.Legal.{IsInRange, IsTimely, HasAged}
 use Rattle.join_history.specs.Due.{IsRepeat}
-use Rattle.join_history.specs.Examples.{a1, pool, set_of, enrolled, granted, spreading, Hours, LeaseLives, AddressIsHeld, Repeats, Window, Contexts, Pools, Below, Blocks, Releases, Rolls, Switches, AnswerBytes, Updates, SummaryGrants}
+use Rattle.join_history.specs.Examples.{a1, pool, set_of, enrolled, granted, spreading, Hours, LeaseLives, AddressIsHeld, Repeats, Window, Contexts, Pools, Below, Blocks, Releases, Rolls, Switches, AnswerBytes, Updates, given, Answered, SummaryGrants}
 use Rattle.cbor_cojp.specs.Spelling.{number, string, array, map}
 use Rattle.join_history.specs.Answers.{grant_answer}
 use Rattle.join_history.specs.Updates.{update_message}
@@ -358,6 +358,37 @@ updates = record {
   after_lease = λ may. ended may.0 may.2.2.0 may.2.2.1;
   stale = ((record { not_before = omega arith; fits = omega arith }, refl, (1, live_now), hasnt), not_stale);
   stale_twice = λ may. may.1 is_stale_now;
+}
+
+-- no Grant is among the last two entries
+no_grant_after : Any (IsGrantTo given a1) (Roll 2 (set_of 2 ([] ∷ [])) ∷ Given 3 0 63 2 ∷ []) → ⊥
+no_grant_after (zero, e, small, is, granted) = subst (IsGrantTo given a1) (sym is) granted
+no_grant_after (suc zero, e, small, is, granted) = subst (IsGrantTo given a1) (sym is) granted
+no_grant_after (suc (suc k), e, small, is, granted) = omega (arith, small)
+
+given_once : (epoch : ℕ) → Any (IsGivenTo given a1 epoch) given → epoch ≡ 2
+given_once epoch (zero, e, small, is, said) = absurd (subst (IsGivenTo given a1 epoch) (sym is) said)
+given_once epoch (suc zero, e, small, is, said) = absurd (subst (IsGivenTo given a1 epoch) (sym is) said)
+given_once epoch (suc (suc zero), e, small, is, said) = absurd (subst (IsGivenTo given a1 epoch) (sym is) said)
+given_once epoch (suc (suc (suc zero)), e, small, is, said) = absurd (subst (IsGivenTo given a1 epoch) (sym is) said)
+given_once epoch (suc (suc (suc (suc zero))), e, small, is, said) = absurd (subst (IsGivenTo given a1 epoch) (sym is) said)
+given_once epoch (suc (suc (suc (suc (suc zero)))), e, small, is, said) = absurd (subst (IsGivenTo given a1 epoch) (sym is) said)
+given_once epoch (suc (suc (suc (suc (suc (suc zero))))), e, small, is, said) =
+    let there = subst (IsGivenTo given a1 epoch) (sym is) said in sym there.1
+given_once epoch (suc (suc (suc (suc (suc (suc (suc k)))))), e, small, is, said) = absurd (omega (arith, small))
+
+not_older : Has given a1 1 → ⊥
+unfolding Nowhere
+not_older (inl since) =
+    no_place (λ e after. IsRollOf 1 e × Any (IsGrantTo given a1) after) given since.before since.after since.roll
+    ((λ x. x.0), ((λ x. x.0), ((λ x. x.0), ((λ x. x.0), ((λ x. no_grant_after x.1), ((λ x. omega (arith, x.0)), ((λ x. x.0), tt)))))))
+    since.place (since.is_roll, since.granted)
+not_older (inr said) = let same = given_once 1 said in omega (arith, same)
+
+pub answered : Answered
+answered = record {
+  newest = inr (6, Given 3 0 63 2, omega arith, refl, (refl, refl));
+  older = not_older;
 }
 
 -- a1's Grant with a Roll after it

@@ -151,6 +151,15 @@ pub record Updates : Type 0 where
   pub stale : MayFollow spreading (Stale 3 a1 2)
   pub stale_twice : MayFollow (spreading ++ Stale 3 a1 2 ∷ []) (Stale 4 a1 2) → ⊥
 
+-- a1 answered its update to the epoch 2
+abbrev pub given : List Entry
+given = spreading ++ Given 3 0 63 2 ∷ []
+
+-- an update's answer counts for its epoch and for no older one
+pub record Answered : Type 0 where
+  pub newest : Has given a1 2
+  pub older : Has given a1 1 → ⊥
+
 -- a summary keeps a Grant as long as its address is held
 pub record SummaryGrants : Type 0 where
   pub in_grace : IsSumGrant (granted 1 0 ++ Roll 7199 (set_of 1 ([] ∷ [])) ∷ []) (record { id = a1; address = 1; until = 3600 })

@@ -20,7 +20,9 @@ use Rattle.join_history.specs.Legal.{IsLegal, MayFollow}
 use Rattle.join_history.specs.Due.{IsWish, IsDue}
 use Rattle.join_history.specs.Answers.{configuration, HaveWidths, IsAnswer}
 use Rattle.cbor_cojp.specs.Config.{IsConfig}
+use Rattle.join_history.specs.Updates.{Waits, IsFirstWaiting}
 use Rattle.join_history.specs.Opening.{IsOpened}
+use Rattle.std.specs.Int.{w64, from_be_bytes}
 
 -- from the last time on no address is held by two pledges
 abbrev pub OneHolder : Type 0
@@ -128,6 +130,11 @@ SwitchLeavesNone = (h : List Entry) (time epoch t a : ℕ) (p : PledgeId) → Is
     → time ≤ t → IsLive (h ++ Switch time epoch ∷ []) t p a
     → Has (h ++ Switch time epoch ∷ []) p (epoch_of (phase (h ++ Switch time epoch ∷ [])))
     ⊎ IsStaleFor (h ++ Switch time epoch ∷ []) p (epoch_of (phase (h ++ Switch time epoch ∷ [])))
+
+-- no pledge that waits has a lower identifier than the first that waits
+abbrev pub FirstWaitingIsLeast : Type 0
+FirstWaitingIsLeast = (h : List Entry) (t epoch : ℕ) (p q : PledgeId) → IsFirstWaiting h t p → Waits h t q epoch
+    → from_be_bytes w64 p.0 ≤ from_be_bytes w64 q.0
 
 -- the ids of the keys in force are 1 to 252, and no two keys have one
 abbrev pub KeyIdsDiffer : Type 0

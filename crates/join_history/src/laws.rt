@@ -1,7 +1,7 @@
 //! The laws of legal histories.
-ghost use Rattle.join_history.specs.Laws.{OneHolder, OneLiveLease, DecidesOnce, OneNumber, OneCheck, KeepsAddress, OneDue, DueSomething, DueMayFollow, EmptyIsLegal, GrowsLegal, PrefixIsLegal, LeaseEnds, LeaseWithoutEnd, ReleasedHoldsNothing, ReleasedLate, BlockEnds, BlockEndsRise, EpochsRise, SwitchLeavesNone, KeyIdsDiffer, AnswerStays, OneAnswer, GrantAnswerFits, RowsAreEnrolled, OpeningAgainAddsNothing};
+ghost use Rattle.join_history.specs.Laws.{OneHolder, OneLiveLease, DecidesOnce, OneNumber, OneCheck, KeepsAddress, OneDue, DueSomething, DueMayFollow, EmptyIsLegal, GrowsLegal, PrefixIsLegal, LeaseEnds, LeaseWithoutEnd, ReleasedHoldsNothing, ReleasedLate, BlockEnds, BlockEndsRise, EpochsRise, SwitchLeavesNone, KeyIdsDiffer, FirstWaitingIsLeast, AnswerStays, OneAnswer, GrantAnswerFits, RowsAreEnrolled, OpeningAgainAddsNothing};
 ghost use Rattle.join_history.specs.SummaryLaws.{SummaryFixesAnswers, SummaryFixesNext, OneSummary};
-ghost use Rattle.join_history.specs.Examples.{Hours, LeaseLives, AddressIsHeld, Repeats, Window, Contexts, Pools, Below, Blocks, Releases, Rolls, Switches, AnswerBytes, Updates, SummaryGrants};
+ghost use Rattle.join_history.specs.Examples.{Hours, LeaseLives, AddressIsHeld, Repeats, Window, Contexts, Pools, Below, Blocks, Releases, Rolls, Switches, AnswerBytes, Updates, Answered, SummaryGrants};
 
 /// Does nothing. Its clauses are laws: what holds of every legal history.
 pub fn history_laws()
@@ -34,6 +34,7 @@ pub fn key_laws()
     ensures epochs_rise { EpochsRise }
     ensures switch_leaves_none { SwitchLeavesNone }
     ensures key_ids_differ { KeyIdsDiffer }
+    ensures first_waiting_is_least { FirstWaitingIsLeast }
 {}
 
 /// Does nothing. Its clauses are laws of the answers to requests.
@@ -65,6 +66,7 @@ pub fn history_examples()
     ensures switches { Switches }
     ensures answer_bytes { AnswerBytes }
     ensures updates { Updates }
+    ensures answered { Answered }
     ensures summary_grants { SummaryGrants }
 {}
 

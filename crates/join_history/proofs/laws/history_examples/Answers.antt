@@ -46,3 +46,6 @@ returns-clause-updates c = example.updates
 
 pub returns-clause-summary_grants : goal.returns-clause-summary_grants
 returns-clause-summary_grants c = example.summary_grants
+
+pub returns-clause-answered : goal.returns-clause-answered
+returns-clause-answered c = example.answered
