@@ -1,0 +1,28 @@
+//! A grant of an address, and when its address is free again.
+ghost use Rattle.std.specs.Prelude.{◌↔◌, ◌+◌, ◌≤◌, IsTrue};
+
+use edge_traits::PledgeId;
+use thiserror::Error;
+
+/// Seconds for which an address stays held after the end of its lease.
+pub const GRACE: u64 = 3600;
+
+/// Memory ran out.
+#[derive(Clone, Copy, Debug, PartialEq, Eq, Error)]
+#[error("out of memory")]
+pub struct NoMemory;
+
+/// A grant of an address to a pledge until a second. One until 2^64 - 1 has no end.
+#[derive(Clone, Copy, Debug, PartialEq, Eq, PartialOrd, Ord)]
+pub struct Grant {
+    pub until: u64,
+    pub address: u16,
+    pub id: PledgeId,
+}
+
+/// Whether a grant until this second holds its address no longer at `now`.
+pub(crate) fn is_over(until: u64, now: u64) -> bool
+    ensures { IsTrue result ↔ (until + 3600 ≤ now) }
+{
+    now >= GRACE && until <= now - GRACE
+}
