@@ -157,7 +157,7 @@ fn a_full_pool_of_all_addresses_is_as_the_list(rt: HostRuntime) -> Result<(), Fa
         count: 65533,
         pledges: 65_700,
     };
-    assert_eq!(rt; compare(rt.alloc(), world, 2_000, 1)?, Some(0));
+    assert_eq!(rt; compare(rt.alloc(), world, 20_000, 1)?, Some(0));
     Ok(())
 }
 
@@ -169,5 +169,99 @@ fn a_pool_of_5_with_8_pledges_is_as_the_list(rt: HostRuntime) -> Result<(), Fail
         pledges: 9,
     };
     assert_eq!(rt; compare(rt.alloc(), world, 20_000, 2)?, Some(0));
+    Ok(())
+}
+
+/// Grants what a Join gets from the `count` addresses from 1 on, for 3600 seconds.
+fn join(leases: &mut Leases, number: u64, count: u16, now: u64) -> Option<(u16, u64)>
+    requires pool { count < 65534 }
+    requires time { (leases.old.passed ≤ now) × (now < 2 ^ 60) }
+    requires room { length leases.old.grants + leases.old.room ≡ 100000 }
+    ensures time { leases.new.passed ≡ leases.old.passed }
+    ensures room { length leases.new.grants + leases.new.room ≡ 100000 }
+{
+    let address = leases.ask(pledge(number), 1, count, now)?;
+    if leases.kept() < ROOM {
+        leases.grant(pledge(number), address, now + 3600);
+        Some((address, now + 3600))
+    } else {
+        None
+    }
+}
+
+/// Joins over one pool, as the pledge's number, the second, and what it gets.
+fn joins(leases: &mut Leases, count: u16, cases: &[(u64, u64, Option<(u16, u64)>)]) -> u32
+    requires pool { count < 65534 }
+    requires time { leases.old.passed ≡ 0 }
+    requires room { length leases.old.grants + leases.old.room ≡ 100000 }
+{
+    let mut differ = 0u32;
+    'cases: for (number, now, want) in cases {
+        if *now < 100_000 && join(leases, *number, count, *now) != *want {
+            differ = differ.saturating_add(1);
+        }
+    }
+    differ
+}
+
+#[test]
+fn an_address_is_held_for_the_grace(rt: HostRuntime) -> Result<(), Fail> {
+    let mut leases = Leases::empty(rt.alloc(), ROOM)?;
+    let cases = [
+        (1, 0, Some((1, 3600))),
+        (2, 10, None),
+        (2, 7199, None),
+        (2, 7200, Some((1, 10800))),
+    ];
+    assert_eq!(rt; joins(&mut leases, 1, &cases), 0);
+    Ok(())
+}
+
+#[test]
+fn a_live_lease_keeps_its_address_though_a_lesser_one_is_free(rt: HostRuntime) -> Result<(), Fail> {
+    let mut leases = Leases::empty(rt.alloc(), ROOM)?;
+    let cases = [
+        (1, 0, Some((1, 3600))),
+        (2, 0, Some((2, 3600))),
+        (2, 3599, Some((2, 7199))),
+        (2, 7198, Some((2, 10798))),
+        (2, 7200, Some((2, 10800))),
+    ];
+    assert_eq!(rt; joins(&mut leases, 2, &cases), 0);
+    let mut leases = Leases::empty(rt.alloc(), ROOM)?;
+    let cases = [
+        (1, 0, Some((1, 3600))),
+        (2, 0, Some((2, 3600))),
+        (2, 3599, Some((2, 7199))),
+        (2, 7200, Some((1, 10800))),
+    ];
+    assert_eq!(rt; joins(&mut leases, 2, &cases), 0);
+    Ok(())
+}
+
+#[test]
+fn the_least_address_whose_grace_is_over_comes_first(rt: HostRuntime) -> Result<(), Fail> {
+    let mut leases = Leases::empty(rt.alloc(), ROOM)?;
+    let cases = [
+        (1, 0, Some((1, 3600))),
+        (2, 0, Some((2, 3600))),
+        (3, 0, Some((3, 3600))),
+        (4, 7200, Some((1, 10800))),
+        (3, 7200, Some((2, 10800))),
+        (2, 7200, Some((3, 10800))),
+    ];
+    assert_eq!(rt; joins(&mut leases, 3, &cases), 0);
+    Ok(())
+}
+
+#[test]
+fn kept_grants_are_reported_each(rt: HostRuntime) -> Result<(), Fail> {
+    let mut leases = Leases::empty(rt.alloc(), 2)?;
+    assert_eq!(rt; leases.kept(), 0);
+    leases.grant(pledge(7), 9, u64::MAX);
+    assert_eq!(rt; leases.kept(), 1);
+    assert_eq!(rt; leases.kept_at(0), (pledge(7), 9, u64::MAX));
+    assert_eq!(rt; leases.live(pledge(7), u64::MAX - 1), Some(9));
+    assert!(rt; leases.holds(pledge(7), 9, u64::MAX));
     Ok(())
 }

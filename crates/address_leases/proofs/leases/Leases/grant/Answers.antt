@@ -41,6 +41,6 @@ returns c =
       passed = passed;
       room = sym (ap (λ (v : Lent). v.room) c.self.view_is) ∙ c.push.ensures.room;
       total =
-        subst (λ (v : Lent). length c.push.new.self.grants + c.push.new.self.room ≡ length v.grants + v.room) c.self.view_is
-        (omega (arith, length_permutation (g ∷ q.grants) c.push.new.self.grants c.push.ensures.grants, c.push.ensures.room));
+          subst (λ (v : Lent). length c.push.new.self.grants + c.push.new.self.room ≡ length v.grants + v.room) c.self.view_is
+          (omega (arith, length_permutation (g ∷ q.grants) c.push.new.self.grants c.push.ensures.grants, c.push.ensures.room));
     }
