@@ -3,6 +3,7 @@ ghost use Rattle.std.specs.Prelude.{◌≡◌, ◌<◌, length};
 
 use crate::locks::{mutexes, turns};
 use crate::messages::{opens_right, protects_right};
+use crate::parts::{leases, windows};
 use aes_ccm::{Aes128, Unsealed};
 use hkdf_sha256::{expand, extract};
 use seq_table::{Draw, Seat, SeqTable};
@@ -47,6 +48,8 @@ pub enum Case {
     Draw,
     Turn,
     Mutex,
+    Lease,
+    Window,
 }
 
 impl Case {
@@ -61,6 +64,8 @@ impl Case {
         Case::Draw,
         Case::Turn,
         Case::Mutex,
+        Case::Lease,
+        Case::Window,
     ];
 
     /// The case of this word.
@@ -76,6 +81,8 @@ impl Case {
             "draw" => Some(Case::Draw),
             "turn" => Some(Case::Turn),
             "mutex" => Some(Case::Mutex),
+            "lease" => Some(Case::Lease),
+            "window" => Some(Case::Window),
             _ => None,
         }
     }
@@ -92,6 +99,8 @@ impl Case {
             Case::Draw => "draw",
             Case::Turn => "turn",
             Case::Mutex => "mutex",
+            Case::Lease => "lease",
+            Case::Window => "window",
         }
     }
 
@@ -108,6 +117,8 @@ impl Case {
             Case::Draw => draws(alloc, 2) == Some(1),
             Case::Turn => turns(rt, alloc, 2) == Some(2),
             Case::Mutex => mutexes(rt, 2) == 2,
+            Case::Lease => leases(alloc, 1) == Some(1),
+            Case::Window => windows(34) == Some((33, u32::MAX)),
         }
     }
 
@@ -125,6 +136,8 @@ impl Case {
             Case::Draw => draws(alloc, count).is_some(),
             Case::Turn => turns(rt, alloc, count).is_some_and(|held| held != 0),
             Case::Mutex => mutexes(rt, count) != 0,
+            Case::Lease => leases(alloc, count) == Some(count),
+            Case::Window => windows(count).is_some(),
         }
     }
 }

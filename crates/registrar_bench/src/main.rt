@@ -6,6 +6,7 @@
 mod case;
 mod locks;
 mod messages;
+mod parts;
 mod status;
 
 use case::Case;
@@ -37,6 +38,8 @@ open_request
           opens a request of 23 bytes that was found
 protect_answer
           protects an answer of 28 bytes
+lease     forgets a grant, refuses an ask, looks up a lease and renews it, all 65,533 addresses being held
+window    judges a number by the replay window, and takes it
 ";
 
 const VERSION: &str = "registrar_bench 0.1.0\n";
