@@ -1,5 +1,5 @@
 -- All indices: what each call does to them.
-use Rattle.std.proofs.Common.{true≢false, ◌≡◌, ◌≢◌, ◌⊎◌, inl, inr, ◌↔◌, ℕ, ◌+◌, ◌<◌, ◌≤◌, Bool, true, false, List, [], ◌∷◌, ◌++◌, length, map, filter, take, Option, Some, None, Contains, IsPermutation, refl, sym, ap, ◌∙◌, subst, arith}
+use Rattle.std.proofs.Common.{true≢false, ◌≡◌, ◌≢◌, ◌⊎◌, inl, inr, ◌↔◌, ℕ, ◌+◌, ◌<◌, ◌≤◌, true, List, ◌∷◌, length, map, filter, Option, Some, None, Contains, IsPermutation, refl, sym, ap, ◌∙◌, subst, arith}
 use Rattle.std.proofs.lemmas.Bool.{cases_eq, lt-ltb, not_from_true, not_from_false}
 use Rattle.std.specs.Str.{bytes_eq}
 use Rattle.std.proofs.lemmas.List.Sorted.{Contains-permutation, IsPermutation-sym, length_permutation}
@@ -7,12 +7,12 @@ use Rattle.edge_traits.specs.declared.names.PledgeId.{PledgeId}
 use Rattle.address_leases.specs.declared.grant.Grant.{Grant}
 use Rattle.address_leases.specs.declared.top.Top.{Top}
 use Rattle.address_leases.specs.declared.pledges.Last.{Last}
-use Rattle.address_leases.specs.Grants.{Holds, IsHeldByAnother, IsInPool}
-use Rattle.address_leases.specs.Lent.{Lent, IsLive, IsNotLive}
+use Rattle.address_leases.specs.Grants.{IsHeldByAnother, IsInPool}
+use Rattle.address_leases.specs.Lent.{Lent, IsLive}
 use Rattle.address_leases.specs.Steps.{is_kept, is_of_another}
 use Rattle.address_leases.specs.Indices.{Queued, Indexed, known_of, last_grant, top_at, IsTopOf, IsLastOf, AreIndices, IsSkipped, IsLeastUpTo}
 use Rattle.address_leases.proofs.IdLemmas.{id_cases, test_from_other, test_from_id}
-use Rattle.address_leases.proofs.ListLemmas.{Contains-here, Contains-later, Contains-cons_cases}
+use Rattle.address_leases.proofs.ListLemmas.{Contains-cons_cases}
 use Rattle.address_leases.proofs.QueueLemmas.{Contains-filter, Contains-from_filter}
 use Rattle.address_leases.proofs.LastLemmas.{live_same, not_live_none, live_is_known, last_of_other, last_of_fewer}
 use Rattle.address_leases.proofs.TopsLemmas.{top_of_other, top_of_fewer}

@@ -1,15 +1,13 @@
 -- The last grant of each pledge.
-use Rattle.std.proofs.Common.{◌≡◌, ◌≢◌, ◌⊎◌, inl, inr, ℕ, ◌+◌, ◌<◌, ◌≤◌, Bool, true, false, cond, List, [], ◌∷◌, map, Option, Some, None, Contains, IsPermutation, refl, sym, ap, ◌∙◌, subst, arith, if◌then◌else◌, MatchOption}
+use Rattle.std.proofs.Common.{◌≡◌, ◌≢◌, inl, inr, ℕ, ◌+◌, ◌<◌, ◌≤◌, true, false, cond, List, [], ◌∷◌, map, Option, Some, None, Contains, refl, sym, ap, ◌∙◌, subst, arith, if◌then◌else◌}
 use Rattle.std.specs.Str.{bytes_eq}
-use Rattle.std.proofs.lemmas.Bool.{cases_Bool, true≢false}
 use Rattle.std.proofs.lemmas.Option.{same_Some, none-some}
-use Rattle.std.proofs.lemmas.List.Sorted.{Contains-permutation, IsPermutation-sym}
 use Rattle.edge_traits.specs.declared.names.PledgeId.{PledgeId}
 use Rattle.address_leases.specs.declared.grant.Grant.{Grant}
 use Rattle.address_leases.specs.declared.pledges.Last.{Last}
 use Rattle.address_leases.specs.Lent.{Lent, last_of, IsLive, IsNotLive}
 use Rattle.address_leases.specs.Indices.{known_of, last_grant, IsLastOf, IsAtLast}
-use Rattle.address_leases.proofs.IdLemmas.{id_from_test, id_cases}
+use Rattle.address_leases.proofs.IdLemmas.{id_from_test}
 use Rattle.address_leases.proofs.ListLemmas.{Contains-here, Contains-later, Contains-cons_cases}
 
 -- ---- the lasts that contracts see

@@ -1,5 +1,5 @@
 -- The order of the queue, and what is left of it.
-use Rattle.std.proofs.Common.{slice_index_or, not, is_some, length, Option, Some, None, zero, suc, Contains, Any, ◌↔◌, ◌≢◌, add-one, ◌≡◌, ◌⊎◌, inl, inr, ℕ, ◌+◌, ◌<◌, ◌≤◌, Bool, true, false, cond, List, [], ◌∷◌, map, filter, All, IsPermutation, refl, sym, ap, ◌∙◌, subst, arith, is_lt, true≢false}
+use Rattle.std.proofs.Common.{slice_index_or, not, is_some, length, Option, Some, None, zero, suc, Contains, Any, ◌↔◌, ◌≢◌, add-one, ◌≡◌, inl, inr, ℕ, ◌+◌, ◌<◌, ◌≤◌, Bool, true, false, cond, List, [], ◌∷◌, map, filter, All, IsPermutation, refl, sym, ap, ◌∙◌, subst, arith, is_lt, true≢false}
 use Rattle.std.specs.List.{AllByRecursion}
 use Rattle.std.specs.declared.cmp.Reverse.{Reverse}
 use Rattle.std.proofs.lemmas.Bool.{cases_lt, lt-ltb, le-ltb}
@@ -143,8 +143,3 @@ pub same_first : (items rest : List (Reverse Grant)) (x y : Reverse Grant) → x
     → y ≡ slice_index_or items 0 y → IsPermutation items (y ∷ rest) → y ≡ x
 same_first [] rest x y first first' moved = absurd (omega (arith, length_permutation [] (y ∷ rest) moved))
 same_first (z ∷ items) rest x y first first' moved = first' ∙ sym first
-
--- a test that gives false, turned round
-pub free_from : (b : Bool) (P : Type 0) → (P → b ≡ true) → not b ≡ true → P → ⊥
-free_from true P says is p = true≢false (sym is)
-free_from false P says is p = true≢false (sym (says p))

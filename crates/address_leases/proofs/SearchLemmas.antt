@@ -1,13 +1,13 @@
 -- The search for the least free address.
-use Rattle.std.proofs.Common.{◌≡◌, ◌≢◌, ◌⊎◌, inl, inr, ℕ, ◌+◌, ◌<◌, ◌≤◌, Bool, true, false, not, List, [], ◌∷◌, Option, Some, None, Contains, refl, sym, ap, ◌∙◌, subst, arith, true≢false}
+use Rattle.std.proofs.Common.{◌≡◌, inl, inr, ℕ, ◌+◌, ◌<◌, ◌≤◌, false, List, [], ◌∷◌, Option, Some, None, Contains, refl, sym, ◌∙◌, subst, arith, true≢false}
 use Rattle.std.proofs.lemmas.Bool.{cases_lt}
 use Rattle.std.proofs.lemmas.Option.{none-some, same_Some}
 use Rattle.edge_traits.specs.declared.names.PledgeId.{PledgeId}
 use Rattle.address_leases.specs.declared.grant.Grant.{Grant}
 use Rattle.address_leases.specs.declared.top.Top.{Top}
 use Rattle.address_leases.specs.declared.pledges.Last.{Last}
-use Rattle.address_leases.specs.Grants.{Holds, IsHeldByAnother, IsInPool}
-use Rattle.address_leases.specs.Indices.{top_at, IsTopOf, IsTopOver, IsFirstOver, IsLastOf, IsAtLast, IsSkipped, IsLeastUpTo, IsFreeAnswer}
+use Rattle.address_leases.specs.Grants.{Holds, IsHeldByAnother}
+use Rattle.address_leases.specs.Indices.{top_at, IsTopOf, IsTopOver, IsFirstOver, IsLastOf, IsSkipped, IsLeastUpTo, IsFreeAnswer}
 use Rattle.address_leases.proofs.IdLemmas.{id_cases}
 use Rattle.address_leases.proofs.ListLemmas.{Contains-here, Contains-later}
 use Rattle.address_leases.proofs.IndexLemmas.{held_by_top}

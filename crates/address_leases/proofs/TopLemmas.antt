@@ -1,5 +1,5 @@
 -- The top of an address after one more grant.
-use Rattle.std.proofs.Common.{◌≡◌, ◌⊎◌, inl, inr, ℕ, ◌+◌, ◌<◌, ◌≤◌, Bool, true, false, List, [], ◌∷◌, Option, Some, None, Contains, refl, sym, ap, ◌∙◌, subst, arith}
+use Rattle.std.proofs.Common.{◌≡◌, ◌⊎◌, inl, inr, ℕ, ◌+◌, ◌<◌, ◌≤◌, false, List, ◌∷◌, Some, None, Contains, refl, sym, ◌∙◌, subst, arith}
 use Rattle.address_leases.specs.declared.grant.Grant.{Grant}
 use Rattle.address_leases.specs.declared.top.Top.{Top}
 use Rattle.address_leases.specs.Indices.{IsTopOf, IsBelowTop}

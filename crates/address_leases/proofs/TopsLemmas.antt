@@ -1,12 +1,12 @@
 -- The tops of all addresses and the bounds of their blocks.
-use Rattle.std.proofs.Common.{◌++◌, zero, suc, slice_get, add-one, ◌≡◌, ◌≢◌, ◌⊎◌, inl, inr, ℕ, ◌+◌, ◌-◌, ◌*◌, ◌/◌, ◌<◌, ◌≤◌, Bool, true, false, List, [], ◌∷◌, length, take, drop, get_or, set, Option, Some, None, Contains, All, slice_index_or, slice_range, refl, sym, ap, ◌∙◌, subst, arith}
+use Rattle.std.proofs.Common.{◌++◌, zero, suc, slice_get, add-one, ◌≡◌, ◌≢◌, inl, inr, ℕ, ◌+◌, ◌-◌, ◌*◌, ◌/◌, ◌<◌, ◌≤◌, List, [], ◌∷◌, length, take, drop, get_or, set, Option, Some, None, Contains, All, slice_index_or, slice_range, refl, sym, ap, ◌∙◌, subst, arith}
 use Rattle.std.proofs.lemmas.Bool.{cases_eq, cases_lt}
 use Rattle.std.proofs.lemmas.Option.{none-some, same_Some}
 use Rattle.std.proofs.lemmas.List.Elements.{Contains-push, Contains-push_cases, Contains-append_left}
 use Rattle.std.proofs.lemmas.List.{get_or-set_same, get_or-set_other, get_or-drop, get_or-take, length-set, length-drop, length-take-le}
 use Rattle.address_leases.specs.declared.grant.Grant.{Grant}
 use Rattle.address_leases.specs.declared.top.Top.{Top}
-use Rattle.address_leases.specs.Indices.{AreTops, IsBoundOf, IsTopOf, IsBelowTop, top_at}
+use Rattle.address_leases.specs.Indices.{AreTops, IsBoundOf, IsTopOf, top_at}
 use Rattle.address_leases.proofs.ListLemmas.{Contains-here, Contains-later, Contains-cons_cases}
 
 -- one more grant of another address
@@ -89,13 +89,6 @@ block_bound tops place bound len within all a below same =
     (all k None (omega (arith, long)))
 
 -- ---- no top and no bound
-
-pub none_pushed : {X : Type 0} (xs : List (Option X)) → ((a : ℕ) → get_or xs a None ≡ None) → (a : ℕ)
-    → get_or (xs ++ None ∷ []) a None ≡ None
-none_pushed [] none zero = refl
-none_pushed [] none (suc a) = refl
-none_pushed (x ∷ xs) none zero = none 0
-none_pushed (x ∷ xs) none (suc a) = none_pushed xs (λ b. none (suc b)) a
 
 past_end : {X : Type 0} (xs : List (Option X)) (a : ℕ) → length xs ≤ a → get_or xs a None ≡ None
 past_end [] a past = refl

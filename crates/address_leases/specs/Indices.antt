@@ -1,5 +1,5 @@
 -- What the indices are: the queue of ends, the top grant of each address, and the last grant of each pledge.
-use Rattle.std.specs.Prelude.{◌/◌, ◌^◌, ◌≡◌, ◌≢◌, ℕ, ◌+◌, ◌-◌, ◌<◌, ◌≤◌, ◌⊎◌, Bool, true, false, List, [], ◌∷◌, Option, Some, None, Contains, All, IsTrue, IfSome, MatchOption, slice_index_or, length}
+use Rattle.std.specs.Prelude.{◌/◌, ◌^◌, ◌≡◌, ℕ, ◌+◌, ◌<◌, ◌≤◌, ◌⊎◌, true, false, List, ◌∷◌, Option, Some, None, Contains, All, IfSome, slice_index_or, length}
 use Rattle.std.specs.Map.{lookup}
 use Rattle.std.specs.BinaryHeap.{IsHeap}
 use Rattle.std.specs.Str.{bytes_eq}

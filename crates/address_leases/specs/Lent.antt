@@ -3,7 +3,7 @@ use Rattle.std.specs.Prelude.{◌≡◌, ℕ, ◌<◌, List, Option, Some, None,
 use Rattle.std.specs.Str.{bytes_eq}
 use Rattle.edge_traits.specs.declared.names.PledgeId.{PledgeId}
 use Rattle.address_leases.specs.declared.grant.Grant.{Grant}
-use Rattle.address_leases.specs.Grants.{Holds, IsLeastFree, IsNoneFree}
+use Rattle.address_leases.specs.Grants.{IsLeastFree, IsNoneFree}
 
 pub record Lent : Type 0 where
   -- the grants, in no order

@@ -1,5 +1,5 @@
 -- What each call does to the leases.
-use Rattle.std.specs.Prelude.{◌≡◌, ◌≢◌, ◌↔◌, ℕ, ◌+◌, ◌-◌, ◌<◌, ◌≤◌, Bool, not, List, [], ◌∷◌, Option, Some, None, filter, nat_lt, bytes_eq, length}
+use Rattle.std.specs.Prelude.{◌≡◌, ◌≢◌, ◌↔◌, ℕ, ◌+◌, ◌≤◌, Bool, not, [], ◌∷◌, Some, filter, nat_lt, bytes_eq, length}
 use Rattle.std.specs.List.Sorted.{IsPermutation}
 use Rattle.edge_traits.specs.declared.names.PledgeId.{PledgeId}
 use Rattle.address_leases.specs.declared.grant.Grant.{Grant}

@@ -1,4 +1,4 @@
-use Rattle.std.proofs.Common.{sym, subst, arith, take, ◌∷◌}
+use Rattle.std.proofs.Common.{sym, subst, take}
 use Rattle.address_leases.specs.Indices.{IsTopOf}
 use Rattle.address_leases.proofs.TopsLemmas.{top_of_next}
 use Rattle.address_leases.proofs.leases.raise_all.Goals as goal

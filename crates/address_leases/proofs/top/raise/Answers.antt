@@ -1,7 +1,7 @@
-use Rattle.std.proofs.Common.{inl, inr, refl, sym, ◌∙◌, subst, arith, Some, false}
+use Rattle.std.proofs.Common.{inl, inr, refl, sym, ◌∙◌, subst, arith}
 use Rattle.std.proofs.lemmas.Bool.{cases_lt}
 use Rattle.address_leases.specs.Indices.{IsTopOf}
-use Rattle.address_leases.proofs.IdLemmas.{id_from_test, other_from_test}
+use Rattle.address_leases.proofs.IdLemmas.{id_from_test}
 use Rattle.address_leases.proofs.TopLemmas.{first_top, next_top}
 use Rattle.address_leases.proofs.top.raise.Goals as goal
 

@@ -1,4 +1,4 @@
-use Rattle.std.proofs.Common.{◌≡◌, refl, sym, ◌∙◌, ap, subst, arith, ◌↔◌, IsTrue, true}
+use Rattle.std.proofs.Common.{refl, sym, ◌∙◌, ap, subst, arith}
 use Rattle.address_leases.specs.Grants.{IsHeldByAnother}
 use Rattle.address_leases.specs.Lent.{Lent}
 use Rattle.address_leases.specs.Indices.{IsTopOf}

@@ -1,4 +1,4 @@
-use Rattle.std.proofs.Common.{sym, ◌∙◌, ap, subst, arith, Some, None, ◌∷◌}
+use Rattle.std.proofs.Common.{sym, ◌∙◌, subst, Some, None}
 use Rattle.address_leases.specs.Lent.{Lent}
 use Rattle.address_leases.specs.Indices.{IsLastOf}
 use Rattle.address_leases.proofs.LastLemmas.{last_of_first}

@@ -1,4 +1,4 @@
-use Rattle.std.proofs.Common.{◌≡◌, ◌≤◌, sym, ◌∙◌, ap, subst, arith, Some, None, [], ◌∷◌, List}
+use Rattle.std.proofs.Common.{◌≡◌, ◌≤◌, sym, ◌∙◌, ap, subst, arith, Some, [], ◌∷◌}
 use Rattle.address_leases.specs.Lent.{Lent}
 use Rattle.address_leases.specs.Indices.{IsLastOf, IsLeastUpTo, IsFreeAnswer}
 use Rattle.address_leases.proofs.SearchLemmas.{least_over, least_free, holds_none, holds_last, holds_last_two}

@@ -1,4 +1,4 @@
-use Rattle.std.proofs.Common.{◌≡◌, refl, sym, ◌∙◌, ap, subst, arith, true≢false, None, Some}
+use Rattle.std.proofs.Common.{sym, ◌∙◌, subst, arith, true≢false, None, Some}
 use Rattle.address_leases.specs.Grants.{IsHeldByAnother}
 use Rattle.address_leases.specs.Indices.{IsLeastUpTo}
 use Rattle.address_leases.proofs.IndexLemmas.{keep_least, take_least}

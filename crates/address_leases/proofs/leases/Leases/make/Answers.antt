@@ -1,4 +1,4 @@
-use Rattle.std.proofs.Common.{refl, sym, subst, arith, None, [], map, ap, length, ℕ}
+use Rattle.std.proofs.Common.{refl, sym, subst, arith, [], map, ap, length, ℕ}
 use Rattle.address_leases.specs.Indices.{IsTopOf, IsLastOf, top_at, known_of, last_grant}
 use Rattle.address_leases.proofs.TopsLemmas.{top_of_none}
 use Rattle.address_leases.proofs.LastLemmas.{not_live_none}

@@ -1,7 +1,4 @@
-use Rattle.std.proofs.Common.{◌≡◌, ◌≢◌, inl, inr, refl, sym, ◌∙◌, ap, subst, arith, map, filter, Contains, IsPermutation, ◌+◌, length, true, true≢false}
-use Rattle.std.proofs.lemmas.List.Sorted.{Contains-permutation, IsPermutation-sym}
-use Rattle.edge_traits.specs.declared.names.PledgeId.{PledgeId}
-use Rattle.address_leases.specs.declared.grant.Grant.{Grant}
+use Rattle.std.proofs.Common.{◌≡◌, inl, inr, refl, sym, ◌∙◌, ap, subst, arith, map, filter, IsPermutation, ◌+◌, length}
 use Rattle.address_leases.specs.Lent.{Lent}
 use Rattle.address_leases.specs.Steps.{is_of_another}
 use Rattle.address_leases.specs.Indices.{known_of, last_grant}

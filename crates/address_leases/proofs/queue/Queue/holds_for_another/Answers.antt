@@ -1,6 +1,5 @@
-use Rattle.std.proofs.Common.{sym, ◌∙◌, ap, subst, ◌↔◌, IsTrue, map}
-use Rattle.std.specs.BinaryHeap.{heap_items}
-use Rattle.address_leases.specs.Grants.{Holds, IsHeldByAnother}
+use Rattle.std.proofs.Common.{◌∙◌, ap, subst, ◌↔◌, IsTrue, map}
+use Rattle.address_leases.specs.Grants.{IsHeldByAnother}
 use Rattle.address_leases.specs.Indices.{Queued, grant_of}
 use Rattle.address_leases.proofs.QueueLemmas.{another_from_any}
 use Rattle.address_leases.proofs.queue.Queue.holds_for_another.Goals as goal

@@ -1,4 +1,4 @@
-use Rattle.std.proofs.Common.{refl, sym, ◌∙◌, ap, subst, arith, ◌∷◌, map, ◌+◌, ◌<◌, ◌≤◌, All, IsPermutation, slice_index_or}
+use Rattle.std.proofs.Common.{refl, sym, ap, subst, ◌∷◌, map, ◌+◌, ◌<◌, ◌≤◌, All, IsPermutation}
 use Rattle.std.specs.BinaryHeap.{heap_items}
 use Rattle.std.specs.declared.cmp.Reverse.{Reverse}
 use Rattle.std.proofs.lemmas.List.Sorted.{IsPermutation-map}

@@ -1,4 +1,4 @@
-use Rattle.std.proofs.Common.{subst, ap, ◌∷◌, map, IsPermutation}
+use Rattle.std.proofs.Common.{subst, ◌∷◌, map, IsPermutation}
 use Rattle.std.specs.BinaryHeap.{heap_items}
 use Rattle.std.specs.declared.cmp.Reverse.{Reverse}
 use Rattle.std.proofs.lemmas.List.Sorted.{IsPermutation-map}
