@@ -83,7 +83,8 @@ last_of_first grants passed g none = (
   λ _. Contains-here g grants,
 )
 
--- the next last one of a pledge: it is at the new address, and what is at another one is remembered or there may be more
+-- the next last one of a pledge: it is at the new address, and what is at another one is remembered
+-- or there may be more
 pub last_of_next : (grants : List Grant) (passed : ℕ) (g : Grant) (last next : Last) → IsLastOf grants passed g.id (Some last)
     → next.address ≡ g.address → next.until ≡ g.until
     → ((a : ℕ) → IsAtLast a last → ((x : Grant) × Contains grants x × (passed < x.until + 3600) × (x.address ≡ a)) → IsAtLast a next)

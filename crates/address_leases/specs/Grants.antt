@@ -1,9 +1,11 @@
--- Which pledge holds which address, over a list of grants. An address stays held for 3600 seconds after its lease's end.
+-- Which pledge holds which address, over a list of grants. An address stays held for 3600 seconds
+-- after its lease's end.
 use Rattle.std.specs.Prelude.{◌≡◌, ◌≢◌, ℕ, ◌+◌, ◌<◌, ◌≤◌, List, Contains}
 use Rattle.edge_traits.specs.declared.names.PledgeId.{PledgeId}
 use Rattle.address_leases.specs.declared.grant.Grant.{Grant}
 
--- at t the pledge holds the address: a grant of it to the pledge ended less than 3600 seconds before t, or ends later
+-- at t the pledge holds the address: a grant of it to the pledge ended less than 3600 seconds
+-- before t, or ends later
 abbrev pub Holds : List Grant → ℕ → ℕ → PledgeId → Type 0
 Holds grants t a p = (g : Grant) × Contains grants g × (g.address ≡ a) × (g.id ≡ p) × (t < g.until + 3600)
 

@@ -1,4 +1,5 @@
--- What the indices are: the queue of ends, the top grant of each address, and the last grant of each pledge.
+-- What the indices are: the queue of ends, the top grant of each address, and the last grant of
+-- each pledge.
 use Rattle.std.specs.Prelude.{◌/◌, ◌^◌, ◌≡◌, ℕ, ◌+◌, ◌<◌, ◌≤◌, ◌⊎◌, true, false, List, ◌∷◌, Option, Some, None, Contains, All, IfSome, slice_index_or, length}
 use Rattle.std.specs.Map.{lookup}
 use Rattle.std.specs.BinaryHeap.{IsHeap}
@@ -47,7 +48,8 @@ Pops time old (Some g) new =
 
 -- ---- the top grants
 
--- the address's grant that ends last: its pledge, its end, and whether another pledge had a grant that wasn't over
+-- the address's grant that ends last: its pledge, its end, and whether another pledge had a grant
+-- that wasn't over
 
 -- the grant ends no later than the top of its address
 abbrev pub IsBelowTop : Grant → Option Top → Type 0
@@ -59,8 +61,8 @@ abbrev pub IsTopOver : ℕ → Option Top → Type 0
 IsTopOver t None = Unit {0}
 IsTopOver t (Some top) = top.until + 3600 ≤ t
 
--- the top of an address over the grants: each grant of the address that isn't over is below it, and it
--- is one unless it is over
+-- the top of an address over the grants: each grant of the address that isn't over is below it, and
+-- it is one unless it is over
 pub record IsTopOf (grants : List Grant) (passed a : ℕ) (top : Option Top) : Type 0 where
   pub above : (g : Grant) → Contains grants g → g.address ≡ a → passed < g.until + 3600 → IsBelowTop g top
   pub is_one : IfSome top (λ top. passed < top.until + 3600 → Contains grants (record { until = top.until; address = a; id = top.id }))
@@ -123,7 +125,8 @@ pub record AreIndices (queue : Queued) (tops : List (Option Top)) (pledges : Ind
 
 -- ---- the search for the least free address
 
--- another pledge holds the address, or the pledge does and it isn't one of those that were looked at
+-- another pledge holds the address, or the pledge does and it isn't one of those that were looked
+-- at
 abbrev pub IsSkipped : List Grant → ℕ → PledgeId → List ℕ → ℕ → Type 0
 IsSkipped grants t p seen b = IsHeldByAnother grants t b p ⊎ (Holds grants t b p × (Contains seen b → ⊥))
 

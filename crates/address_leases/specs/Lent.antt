@@ -1,4 +1,5 @@
--- What the leases are: the grants that are kept, each pledge's last lease, and how many more grants there is room for.
+-- What the leases are: the grants that are kept, each pledge's last lease, and how many more grants
+-- there is room for.
 use Rattle.std.specs.Prelude.{◌≡◌, ℕ, ◌<◌, List, Option, Some, None, [], ◌∷◌, ◌⊎◌, if◌then◌else◌}
 use Rattle.std.specs.Str.{bytes_eq}
 use Rattle.edge_traits.specs.declared.names.PledgeId.{PledgeId}

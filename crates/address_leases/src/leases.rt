@@ -16,8 +16,8 @@ use edge_traits::PledgeId;
 use std::alloc::{AllocError, Global};
 use std::marker::Model;
 
-/// Which pledge holds which address. In contracts it is the grants that are kept, each pledge's last lease, the time of the
-/// last `pass`, and the room that is left.
+/// Which pledge holds which address. In contracts it is the grants that are kept, each pledge's
+/// last lease, the time of the last `pass`, and the room that is left.
 #[derive(Drop)]
 pub struct Leases {
     queue: Queue,
@@ -59,8 +59,8 @@ impl Leases {
         })
     }
 
-    /// The address that a Join of the pledge gets from the `count` addresses from `first` on: its live one, or else the
-    /// least that no other pledge holds.
+    /// The address that a Join of the pledge gets from the `count` addresses from `first` on: its
+    /// live one, or else the least that no other pledge holds.
     pub fn ask(&self, id: PledgeId, first: u16, count: u16, now: u64) -> Option<u16>
         requires pool { (1 ≤ first) × (first + count ≤ 65534) }
         requires time { self.now.passed ≤ now }
@@ -252,7 +252,8 @@ impl Leases {
         }
     }
 
-    /// The address, where it is a lesser one of the pool that no other pledge holds, or else the one found so far.
+    /// The address, where it is a lesser one of the pool that no other pledge holds, or else the
+    /// one found so far.
     fn lesser(
         &self,
         found: Option<u16>,

@@ -1,6 +1,6 @@
-//! Leases of short addresses: which pledge holds which address, until when, and which address a Join gets (RFC 9031, 8.4).
-//! It promises the layer above exact answers over the list of the grants that it keeps, by indices that take no memory.
-//! The definitions are in specs/: Grants (who holds what), Lent (what the leases are), Steps (what each call does to them).
+//! Leases of short addresses: who holds which, until when, and what a Join gets (RFC 9031, 8.4).
+//! It promises the layer above exact answers over the grants that are kept, without taking memory.
+//! The definitions are in specs/: Grants (who holds what), Lent (what leases are), Steps (calls).
 #![tactic(auto)]
 
 mod grant;

@@ -25,7 +25,8 @@ pub(crate) struct Last {
 
 type Map = IndexMap<[u8; 8], Last>;
 
-/// The last grants by pledge. The second map serves to leave out the pledges of which no grant is kept.
+/// The last grants by pledge. The second map serves to leave out the pledges of which no grant is
+/// kept.
 #[derive(Drop)]
 pub(crate) struct Pledges {
     lasts: Map,

@@ -14,7 +14,8 @@ use std::cmp::Reverse;
 use std::collections::BinaryHeap;
 use std::marker::Model;
 
-/// A queue of grants by their ends. In contracts it is the list of the grants and how many more fit.
+/// A queue of grants by their ends. In contracts it is the list of the grants and how many more
+/// fit.
 #[derive(Drop)]
 pub(crate) struct Queue {
     heap: BinaryHeap<Reverse<Grant>>,

@@ -19,7 +19,7 @@ const BLOCK: usize = 64;
 ///
 /// ```text
 /// tops     0 .. 63 | 64 .. 127 | ..        the top of each address
-/// bounds      0    |     1     | ..        the least end in the block, where each address of it has a top
+/// bounds      0    |     1     | ..        the least end of a block of tops
 /// ```
 #[derive(Drop)]
 pub(crate) struct Tops {

@@ -12,8 +12,9 @@ const ADDRESSES: u16 = 65533;
 /// How many grants fit.
 const ROOM: u32 = 131_066;
 
-/// How many times all was as it is: each time one grant is forgotten, a stranger asks and gets none, a pledge is live and
-/// holds its address, and is granted it anew. All addresses are held all the time.
+/// How many times all was as it is: each time one grant is forgotten, a stranger asks and gets
+/// none, a pledge is live and holds its address, and is granted it anew. All addresses are held all
+/// the time.
 pub fn leases(alloc: Global, count: u64) -> Option<u64> {
     let Ok(mut leases) = Leases::empty(alloc, ROOM) else {
         return None;
@@ -54,7 +55,8 @@ fn pledge(number: u16) -> PledgeId {
     PledgeId((number as u64).to_be_bytes())
 }
 
-/// The window after so many numbers from 0 on, each of which is judged and taken, the odd one of two first.
+/// The window after so many numbers from 0 on, each of which is judged and taken, the odd one of
+/// two first.
 pub fn windows(count: u64) -> Option<(u64, u32)> {
     let mut window = Window::empty();
     for turn in 0..count {

@@ -2,7 +2,7 @@
 use Rattle.std.proofs.Common.{◌≡◌, ◌≢◌, ◌⊎◌, inl, inr, Bool, true, false, refl, sym, ap, ◌∙◌}
 use Rattle.std.specs.Bool.{Decides}
 use Rattle.std.specs.Str.{bytes_eq}
-use Rattle.std.proofs.lemmas.Bool.{false≢true, false_from_ne_true}
+use Rattle.std.proofs.lemmas.Bool.{false≢true}
 use Rattle.std.proofs.lemmas.Slice.Eq.{bytes_eq-Decides}
 use Rattle.edge_traits.specs.declared.names.PledgeId.{PledgeId}
 
@@ -14,9 +14,6 @@ id_from_test p q is = id_from_numbers p q ((bytes_eq-Decides p.0 q.0).0 is)
 
 pub test_from_id : (p q : PledgeId) → p ≡ q → bytes_eq p.0 q.0 ≡ true
 test_from_id p q same = (bytes_eq-Decides p.0 q.0).1 (ap (λ (x : PledgeId). x.0) same)
-
-pub test_from_other : (p q : PledgeId) → p ≢ q → bytes_eq p.0 q.0 ≡ false
-test_from_other p q other = false_from_ne_true (bytes_eq p.0 q.0) (λ is. other (id_from_test p q is))
 
 pub other_from_test : (p q : PledgeId) → bytes_eq p.0 q.0 ≡ false → p ≢ q
 other_from_test p q is = λ same. false≢true (sym is ∙ test_from_id p q same)

@@ -39,7 +39,8 @@ stale_stays writes w p e other old = record {
   ];
 }
 
--- what is stale after a write was stale before it, or the write marks it, and the write is no grant to it
+-- what is stale after a write was stale before it, or the write marks it, and the write is no grant
+-- to it
 stale_before : (writes : List Write) (w : Write) (p : PledgeId) (e : ℕ) → IsStaleFor (writes ++ w ∷ []) p e
     → (w ≡ stale p e) ⊎ (IsStaleFor writes p e × ((n : ℕ) → w ≡ granted p n → ⊥))
 stale_before writes w p e new = elim (snoc_split writes new.before new.after w (stale p e) new.place) [

@@ -1,4 +1,5 @@
--- What the holders are: the epochs of each pledge that was written, and for how many more there is room.
+-- What the holders are: the epochs of each pledge that was written, and for how many more there is
+-- room.
 use Rattle.std.specs.Prelude.{◌≡◌, ◌≢◌, ℕ, ◌+◌, ◌≤◌, Bool, true, List, Option, Some, None, is_some}
 use Rattle.std.specs.Map.{lookup}
 use Rattle.std.specs.Str.{bytes_eq}

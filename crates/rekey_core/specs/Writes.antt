@@ -2,13 +2,15 @@
 use Rattle.std.specs.Prelude.{◌≡◌, ◌⊎◌, ℕ, ◌<◌, ◌≤◌, List, ◌∷◌, ◌++◌, Contains}
 use Rattle.edge_traits.specs.declared.names.PledgeId.{PledgeId}
 
--- an address was granted while an epoch was the last one; the keys of an epoch were given; the pledge was marked as stale
+-- an address was granted while an epoch was the last one; the keys of an epoch were given; the
+-- pledge was marked as stale
 pub data Write : Type 0 where
   granted : PledgeId → ℕ → Write
   given : PledgeId → ℕ → Write
   stale : PledgeId → ℕ → Write
 
--- the pledge has the keys of the epoch: a grant came with them, or with later ones, or they were given
+-- the pledge has the keys of the epoch: a grant came with them, or with later ones, or they were
+-- given
 abbrev pub Has : List Write → PledgeId → ℕ → Type 0
 Has writes p e = ((n : ℕ) × Contains writes (granted p n) × (e ≤ n)) ⊎ Contains writes (given p e)
 

@@ -13,7 +13,8 @@ use std::marker::Model;
 
 type Map = IndexMap<[u8; 8], Epochs>;
 
-/// Which pledge has which epoch. In contracts it is the epochs of each pledge that was written, and the room that is left.
+/// Which pledge has which epoch. In contracts it is the epochs of each pledge that was written, and
+/// the room that is left.
 #[derive(Drop)]
 pub struct Holders {
     epochs: Map,
@@ -62,7 +63,8 @@ impl Holders {
         self.has(id, epoch) || self.is_stale(id, epoch)
     }
 
-    /// The greatest epoch of which the pledge has the keys and the greatest for which it is stale, 0 where there is none.
+    /// The greatest epoch of which the pledge has the keys and the greatest for which it is stale,
+    /// 0 where there is none.
     pub fn epochs(&self, id: PledgeId) -> (u32, u32)
         ensures { (result.0 ≡ (epochs_of self.now id).has) × (result.1 ≡ (epochs_of self.now id).stale) }
     {
@@ -70,7 +72,8 @@ impl Holders {
         (epochs.has, epochs.stale)
     }
 
-    /// An address was granted to the pledge while the epoch was the last one. There is room where the pledge is new.
+    /// An address was granted to the pledge while the epoch was the last one. There is room where
+    /// the pledge is new.
     pub fn granted(&mut self, id: PledgeId, epoch: u32)
         requires latest { IsLatest self.old id epoch }
         requires room { known_of self.old id ≡ None → 0 < self.old.room }

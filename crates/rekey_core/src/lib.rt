@@ -1,5 +1,5 @@
-//! Which pledge has the keys of which epoch, and for which it is stale (RFC 9031, 8.4.3: the keys of the network).
-//! It promises the layer above that each answer is what the list of all grants, answers and stale marks says.
+//! Which pledge has the keys of which epoch, and for which it is stale (RFC 9031, 8.4.3).
+//! It promises the layer above that each answer is what the list of all that was written says.
 //! The definitions are in specs/: Writes (what the list says), Held (what the holders are).
 #![tactic(auto)]
 

@@ -6,7 +6,7 @@ use Rattle.std.proofs.lemmas.Bool.{cases_lt, cases_eq}
 use Rattle.std.proofs.lemmas.Nat.Bits.{bit_at-pow_same, bit_at-pow_other}
 use Rattle.std.proofs.lemmas.List.Elements.{Contains-append_left, Contains-push, Contains-push_cases}
 use Rattle.replay_window.specs.declared.judged.Judged.{Judged}
-use Rattle.replay_window.specs.declared.judged.Judged.TheVariants.{Fresh, Taken, Old}
+use Rattle.replay_window.specs.declared.judged.Judged.TheVariants.{Fresh, Taken}
 use Rattle.replay_window.specs.Numbers.{IsJudged}
 use Rattle.replay_window.specs.Bits.{AreMovedUp, AreMarked}
 use Rattle.replay_window.specs.Parts.{AreBitsOf, AreParts, StandsFor, IsWindow}
@@ -16,11 +16,6 @@ pub fresh_above : (numbers : List ℕ) (greatest bits n : ℕ) → AreBitsOf num
     → IsJudged numbers n Fresh
 fresh_above numbers greatest bits n are above =
     (λ m has. omega (arith, are.at_most m has), λ has. omega (arith, are.at_most n has))
-
--- a number 32 below the greatest is old
-pub old_below : (numbers : List ℕ) (greatest bits n : ℕ) → AreBitsOf numbers greatest bits → n + 32 ≤ greatest
-    → IsJudged numbers n Old
-old_below numbers greatest bits n are below = (greatest, are.taken, below)
 
 -- less than 32 below the greatest the bit decides
 pub taken_by_bit : (numbers : List ℕ) (greatest bits n : ℕ) → AreBitsOf numbers greatest bits → n ≤ greatest

@@ -1,4 +1,5 @@
--- The parts of a window: the greatest number taken and 32 bits. Bit i says that the greatest minus i was taken.
+-- The parts of a window: the greatest number taken and 32 bits. Bit i says that the greatest minus
+-- i was taken.
 use Rattle.std.specs.Prelude.{◌≡◌, ◌↔◌, ℕ, ◌-◌, ◌<◌, ◌≤◌, List, [], Option, Some, None, Contains}
 use Rattle.std.specs.Int.{bit_at}
 

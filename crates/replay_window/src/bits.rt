@@ -22,7 +22,7 @@ pub(crate) fn mark(bits: u32, place: u64) -> u32
     bits | 1 << place
 }
 
-/// Moves each bit `by` places up, by at least one, and sets bit 0. What is moved past the 32nd place is lost.
+/// Moves each bit `by` places up, by at least one, and sets bit 0. Bits past place 31 are lost.
 ///
 /// ```text
 /// before   31 .. i .. 1 0        the greatest number g at place 0

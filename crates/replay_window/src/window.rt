@@ -9,7 +9,8 @@ use crate::bits;
 use crate::judged::Judged;
 use std::marker::Model;
 
-/// Which numbers were taken, as far back as 31 below the greatest. In contracts it is its parts, if it has any.
+/// Which numbers were taken, as far back as 31 below the greatest. In contracts it is its parts, if
+/// it has any.
 #[derive(Clone, Copy, Debug, PartialEq, Eq)]
 pub struct Window {
     parts: Option<(u64, u32)>,
@@ -53,7 +54,8 @@ impl Window {
         Window { parts: None }
     }
 
-    /// Judges a number by those that were taken. The window stands for some list, and each such list judges so.
+    /// Judges a number by those that were taken. The window stands for some list, and each such
+    /// list judges so.
     pub fn judge(&self, number: u64) -> Judged
         ensures each { (numbers : List ℕ) → StandsFor numbers self.now → IsJudged numbers number result }
         ensures some { (numbers : List ℕ) × StandsFor numbers self.now × IsJudged numbers number result }
@@ -79,8 +81,8 @@ impl Window {
         self.parts = Some(parts);
     }
 
-    /// The greatest number taken and the 32 bits, of which bit i says that the greatest minus i was taken. None where no
-    /// number was taken.
+    /// The greatest number taken and the 32 bits, of which bit i says that the greatest minus i was
+    /// taken. None where no number was taken.
     pub fn parts(&self) -> Option<(u64, u32)>
         ensures parts { result ≡ self.now }
         ensures valid { IsWindow result }
@@ -88,7 +90,8 @@ impl Window {
         self.parts
     }
 
-    /// The window of these parts. Bit 0 is set, and no bit stands at a place above the greatest number.
+    /// The window of these parts. Bit 0 is set, and no bit stands at a place above the greatest
+    /// number.
     pub fn of_parts(greatest: u64, bits: u32) -> Window
         requires first { bit_at bits 0 ≡ 1 }
         requires none_above { (i : ℕ) → greatest < i → bit_at bits i ≡ 0 }
