@@ -53,7 +53,7 @@ pub enum Case {
 }
 
 impl Case {
-    pub const ALL: [Case; 10] = [
+    pub const ALL: [Case; 12] = [
         Case::Block,
         Case::Seal,
         Case::Unseal,
