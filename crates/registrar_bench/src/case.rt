@@ -137,7 +137,7 @@ impl Case {
             Case::Turn => turns(rt, alloc, count).is_some_and(|held| held != 0),
             Case::Mutex => mutexes(rt, count) != 0,
             Case::Lease => leases(alloc, count) == Some(count),
-            Case::Window => windows(count).is_some(),
+            Case::Window => windows(count) != Some((0, 1)),
         }
     }
 }
