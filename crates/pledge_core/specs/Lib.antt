@@ -1,0 +1,4 @@
+pub mod Session
+pub mod Asking
+pub mod Taking
+pub mod Updating
