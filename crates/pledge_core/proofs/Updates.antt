@@ -1,5 +1,5 @@
 -- Which update a datagram is, and whether its number is fresh.
-use Rattle.std.proofs.Common.{◌≡◌, ℕ, ◌+◌, ◌<◌, ◌≤◌, List, [], ◌∷◌, Result, Ok, subst, sym, arith}
+use Rattle.std.proofs.Common.{◌≡◌, ℕ, List, [], ◌∷◌, Result, Ok, subst, sym, arith}
 use Rattle.oscore_message.specs.declared.found.FindFault.{FindFault}
 use Rattle.oscore_message.specs.Finding.{Request}
 use Rattle.oscore_message.proofs.Findings.{finding_only}

@@ -1,5 +1,5 @@
 -- What a pledge knows.
-use Rattle.std.specs.Prelude.{ℕ, Option, None, Some}
+use Rattle.std.specs.Prelude.{ℕ, Option, None}
 use Rattle.oscore_context.specs.Context.{Known}
 
 -- the context; the next request's number; number and time of the last request; the updates that were taken, as the parts of

@@ -8,7 +8,6 @@ use Rattle.cbor_cojp.specs.declared.config.Configuration.{Configuration}
 use Rattle.cbor_cojp.specs.declared.config.Short.{Short}
 use Rattle.cbor_cojp.specs.Config.{config_at}
 use Rattle.oscore_message.specs.declared.answer.AnswerFault.{AnswerFault}
-use Rattle.oscore_message.specs.Answering.{IsAnswer}
 use Rattle.pledge_core.specs.declared.took.Took.{Took}
 use Rattle.pledge_core.specs.declared.took.Took.TheVariants.{Joined, Refused, Other, Late}
 use Rattle.pledge_core.specs.declared.said.Said.{Said}

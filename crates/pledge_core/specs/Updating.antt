@@ -1,5 +1,5 @@
 -- An update of the registrar, and its answer (RFC 9031, 8.2.2).
-use Rattle.std.specs.Prelude.{◌≡◌, ℕ, List, [], ◌∷◌, ◌++◌, Option, None, Some, Result, Ok, Err}
+use Rattle.std.specs.Prelude.{◌≡◌, ℕ, List, [], ◌∷◌, ◌++◌, Option, None, Some, Ok}
 use Rattle.edge_traits.specs.declared.names.PledgeId.{PledgeId}
 use Rattle.replay_window.specs.declared.judged.Judged.TheVariants.{Fresh}
 use Rattle.replay_window.specs.Numbers.{IsJudged}

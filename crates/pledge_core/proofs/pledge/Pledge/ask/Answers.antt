@@ -1,4 +1,4 @@
-use Rattle.std.proofs.Common.{◌≡◌, ℕ, List, length, ap, ◌∙◌, sym, arith}
+use Rattle.std.proofs.Common.{length, ap, ◌∙◌, sym, arith}
 use Rattle.edge_traits.specs.declared.names.PledgeId.{PledgeId}
 use Rattle.coap_message.specs.Header.{Header}
 use Rattle.coap_message.specs.declared.header.Kind.TheVariants.{Con}

@@ -1,4 +1,4 @@
-use Rattle.std.proofs.Common.{Ok, subst, sym, ap, ◌∙◌, Option, List, ℕ}
+use Rattle.std.proofs.Common.{Ok, subst, sym, ap, ◌∙◌}
 use Rattle.edge_traits.specs.declared.names.PledgeId.{PledgeId}
 use Rattle.oscore_context.specs.Context.{Known}
 use Rattle.oscore_message.specs.Finding.{Request, request_of}

@@ -1,6 +1,6 @@
 use Rattle.std.proofs.Common.{ℕ, List, [], ◌∷◌, Option, subst, sym, ap, ◌∙◌}
 use Rattle.replay_window.specs.declared.judged.Judged.{Judged}
-use Rattle.replay_window.specs.declared.judged.Judged.TheVariants.{Fresh, Taken, Old}
+use Rattle.replay_window.specs.declared.judged.Judged.TheVariants.{Taken, Old}
 use Rattle.replay_window.specs.Numbers.{IsJudged}
 use Rattle.replay_window.specs.Parts.{StandsFor}
 use Rattle.oscore_message.specs.Finding.{request_of}
