@@ -1,3 +1,4 @@
 pub mod Answers
 pub mod Updates
 pub mod Requests
+pub mod Joins

@@ -4,11 +4,13 @@
 #![tactic(auto)]
 
 mod fault;
+mod laws;
 mod pledge;
 mod said;
 mod took;
 
 pub use fault::AskFault;
+pub use laws::join_laws;
 pub use pledge::Pledge;
 pub use took::Took;
 

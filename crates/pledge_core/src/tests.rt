@@ -1,3 +1,4 @@
+//! Requests, answers and updates, worked out by hand or made by other implementations.
 use super::*;
 use arrayvec::ArrayVec;
 use cbor_cojp::JoinRequest;
@@ -6,8 +7,13 @@ use edge_traits::PledgeId;
 use oscore_context::{Context, Side};
 use oscore_message::{find, open_answer, open_request, protect_answer, protect_request};
 use replay_window::Window;
+use std::alloc::Global;
 use std::process::Abort;
 use std::test::Fail;
+
+mod vectors;
+
+use vectors::{Exchange, FIRST, SECOND};
 
 const A1: PledgeId = PledgeId([0, 0, 0, 0, 0, 0, 0, 0xa1]);
 
@@ -142,5 +148,56 @@ fn a_pledge_goes_on_where_it_stopped(rt: HostRuntime) -> Result<(), Fail> {
     assert!(rt; pledge.ask(0, 1, &JOIN, &mut out) == Err(AskFault::Spent(1 << 40)));
     assert!(rt; out.is_empty());
     assert!(rt; format!(in rt.alloc(); "{pledge:?}")?.as_str() == "Pledge { .. }");
+    Ok(())
+}
+
+#[test]
+fn no_other_pledge_takes_the_answer(rt: HostRuntime) {
+    let mut out = ArrayVec::new();
+    let mut pledge = Pledge::new(A1, &PSK);
+    assert!(rt; pledge.ask(100, 1, &JOIN, &mut out) == Ok(0));
+    let answer = answer_of(&rt, 0, &out, b"\x44\xff\xa1\x03\x81\x42\xaf\x93");
+    assert!(rt; answer.len() <= 1280);
+    let a2 = PledgeId([0, 0, 0, 0, 0, 0, 0, 0xa2]);
+    for (id, psk) in [(a2, PSK), (A1, [8; 16])] {
+        let mut other = Pledge::new(id, &psk);
+        assert!(rt; other.ask(100, 1, &JOIN, &mut out) == Ok(0));
+        assert!(rt; other.take(&answer, 100) == Took::Other);
+        assert!(rt; other.held(100) == None);
+    }
+    let mut later = Pledge::resume(A1, &PSK, 1, Window::empty(), None);
+    assert!(rt; later.ask(100, 1, &JOIN, &mut out) == Ok(1));
+    assert!(rt; later.take(&answer, 100) == Took::Other);
+    assert!(rt; pledge.take(&answer, 100) == Took::Joined(0xaf93));
+}
+
+/// The update is taken once, and answered so.
+fn is_taken(rt: &impl Abort, alloc: Global, exchange: &Exchange) -> Result<(), Fail> {
+    let mut pledge = Pledge::new(PledgeId(exchange.id), &exchange.psk);
+    let update = hex::decode(alloc, exchange.update)?;
+    assert!(rt; update.len() <= 1280);
+    let mut answer = ArrayVec::new();
+    assert!(rt; pledge.update(&update, &mut answer));
+    if !exchange.answer.is_empty() {
+        let wanted = hex::decode(alloc, exchange.answer)?;
+        assert!(rt; answer.as_slice() == wanted.as_slice());
+    }
+    assert!(rt; !pledge.update(&update, &mut answer));
+    Ok(())
+}
+
+#[test]
+fn updates_of_other_implementations_are_taken(rt: HostRuntime) -> Result<(), Fail> {
+    for exchange in &FIRST {
+        is_taken(&rt, rt.alloc(), exchange)?;
+    }
+    Ok(())
+}
+
+#[test]
+fn more_updates_of_other_implementations_are_taken(rt: HostRuntime) -> Result<(), Fail> {
+    for exchange in &SECOND {
+        is_taken(&rt, rt.alloc(), exchange)?;
+    }
     Ok(())
 }
