@@ -6,3 +6,4 @@ pub mod LastLemmas
 pub mod TopsLemmas
 pub mod IndexLemmas
 pub mod SearchLemmas
+pub mod PlainLemmas

@@ -2,3 +2,4 @@ pub mod Grants
 pub mod Lent
 pub mod Steps
 pub mod Indices
+pub mod Plain

@@ -1,5 +1,6 @@
 //! A grant of an address, and when its address is free again.
-ghost use Rattle.std.specs.Prelude.{◌↔◌, ◌+◌, ◌≤◌, IsTrue};
+ghost use Rattle.std.specs.Prelude.{◌≡◌, ◌↔◌, ◌+◌, ◌<◌, ◌≤◌, IsTrue};
+ghost use Rattle.address_leases.specs.Indices.{IsHolding};
 
 use edge_traits::PledgeId;
 use thiserror::Error;
@@ -25,4 +26,11 @@ pub(crate) fn is_over(until: u64, now: u64) -> bool
     ensures { IsTrue result ↔ (until + 3600 ≤ now) }
 {
     now >= GRACE && until <= now - GRACE
+}
+
+/// Whether the grant holds the address at `now`.
+pub(crate) fn is_held(grant: &Grant, address: u16, now: u64) -> bool
+    ensures { IsTrue result ↔ IsHolding now address grant.now }
+{
+    grant.address == address && !is_over(grant.until, now)
 }

@@ -7,7 +7,7 @@ ghost use Rattle.address_leases.specs.Indices.{Queued, IsQueue, IsHolding, grant
 ghost use Rattle.address_leases.specs.Steps.{is_kept, is_of_another};
 ghost use Rattle.address_leases.specs.Grants.{Holds, IsHeldByAnother};
 
-use crate::grant::{Grant, is_over};
+use crate::grant::{Grant, is_held, is_over};
 use edge_traits::PledgeId;
 use std::alloc::{AllocError, Global};
 use std::cmp::Reverse;
@@ -132,11 +132,4 @@ fn any_holds_for_another(grants: &[Reverse<Grant>], id: PledgeId, address: u16, 
     ensures { IsTrue result ↔ Any (λ r. IsHolding now address r.0 × (r.0.id ≢ id)) grants.now }
 {
     grants.iter().any(|grant| is_held(&grant.0, address, now) && grant.0.id != id)
-}
-
-/// Whether the grant holds the address at `now`.
-fn is_held(grant: &Grant, address: u16, now: u64) -> bool
-    ensures { IsTrue result ↔ IsHolding now address grant.now }
-{
-    grant.address == address && !is_over(grant.until, now)
 }
