@@ -1,24 +1,23 @@
 -- The plain lists: the last grant of a pledge among some, and the marks of the addresses.
-use Rattle.std.proofs.Common.{◌≡◌, ◌≢◌, ◌↔◌, ◌⊎◌, inl, inr, ℕ, ◌+◌, ◌<◌, ◌≤◌, Bool, true, false, not, cond, List, [], ◌∷◌, ◌++◌, length, replicate, set, take, filter, Option, Some, None, Contains, IsPermutation, slice_get, slice_index_or, add-one, refl, sym, ap, ◌∙◌, subst, arith, true≢false, if◌then◌else◌}
+use Rattle.std.proofs.Common.{◌≡◌, ◌≢◌, ◌⊎◌, inl, inr, ℕ, ◌+◌, ◌<◌, ◌≤◌, Bool, true, false, not, cond, List, [], ◌∷◌, ◌++◌, length, replicate, set, take, filter, Some, None, Contains, slice_index_or, refl, sym, ap, ◌∙◌, subst, arith, true≢false, if◌then◌else◌}
 use Rattle.std.specs.List.{count_by}
 use Rattle.std.specs.Str.{bytes_eq}
-use Rattle.std.proofs.lemmas.Bool.{cases_Bool, cases_eq, cases_lt, lt-ltb, le-ltb}
+use Rattle.std.proofs.lemmas.Bool.{cases_eq, lt-ltb}
 use Rattle.std.proofs.lemmas.Option.{same_Some, none-some}
 use Rattle.std.proofs.lemmas.List.{get_or-set_same, get_or-set_other, get_or-replicate, length-replicate, length_push, take_more}
-use Rattle.std.proofs.lemmas.List.Elements.{Contains-push, Contains-push_cases, Contains-append_left, filter-append}
+use Rattle.std.proofs.lemmas.List.Elements.{Contains-push, Contains-push_cases, Contains-append_left}
 use Rattle.std.proofs.lemmas.List.Filters.{sum_by-filter_both}
-use Rattle.std.proofs.lemmas.List.Sorted.{IsPermutation-refl, IsPermutation-sym, IsPermutation-append_comm}
+use Rattle.std.proofs.lemmas.List.Sorted.{IsPermutation-refl, IsPermutation-append_comm}
 use Rattle.std.proofs.lemmas.List.Sums.{sum_by-append, length-filter}
 use Rattle.edge_traits.specs.declared.names.PledgeId.{PledgeId}
 use Rattle.address_leases.specs.declared.grant.Grant.{Grant}
-use Rattle.address_leases.specs.Grants.{Holds, IsHeldByAnother, IsInPool, IsLeastFree, IsNoneFree}
-use Rattle.address_leases.specs.Lent.{Lent, last_of, IsLive, IsNotLive}
+use Rattle.address_leases.specs.Grants.{IsHeldByAnother, IsInPool, IsLeastFree, IsNoneFree}
+use Rattle.address_leases.specs.Lent.{last_of}
 use Rattle.address_leases.specs.Steps.{Gives, Passes, Releases, is_kept, is_of_another}
-use Rattle.address_leases.specs.Indices.{IsFreeAnswer}
 use Rattle.address_leases.specs.Plain.{ArePlain, AreMarks, IsAgainst}
 use Rattle.address_leases.proofs.ListLemmas.{Contains-here, Contains-later, filter-all}
-use Rattle.address_leases.proofs.QueueLemmas.{Contains-from_filter, Contains-filter}
-use Rattle.address_leases.proofs.IdLemmas.{id_from_test, test_from_id, test_from_other, id_cases}
+use Rattle.address_leases.proofs.QueueLemmas.{Contains-from_filter}
+use Rattle.address_leases.proofs.IdLemmas.{id_from_test, test_from_id, test_from_other}
 
 -- ---- the last grant to a pledge
 

@@ -3,7 +3,7 @@ ghost use Rattle.std.specs.Prelude.{◌≡◌, ◌<◌, length};
 
 use crate::locks::{mutexes, turns};
 use crate::messages::{opens_right, protects_right};
-use crate::parts::{leases, windows};
+use crate::parts::{Look, leases, looks, releases, renewals, windows};
 use aes_ccm::{Aes128, Unsealed};
 use hkdf_sha256::{expand, extract};
 use seq_table::{Draw, Seat, SeqTable};
@@ -32,6 +32,9 @@ const INFO: &[u8] = b"a key of 16 bytes";
 
 const DERIVED: &[u8; 16] = b"\x1b\x3f\x00\x9b\xd3\x1a\xf1\x50\x7b\xad\x52\xa3\x80\xb7\x85\x58";
 
+// What a list of all numbers taken gives for the window of 2,000 numbers from seed 7, in Python.
+const WINDOW: (u64, u32) = (535, 0xefff_ff77);
+
 /// How many numbers a seat draws.
 const DRAWS: u64 = 1 << 24;
 
@@ -49,11 +52,16 @@ pub enum Case {
     Turn,
     Mutex,
     Lease,
+    LeaseAsk,
+    LeaseHolds,
+    LeaseLive,
+    LeaseGrant,
+    LeaseRelease,
     Window,
 }
 
 impl Case {
-    pub const ALL: [Case; 12] = [
+    pub const ALL: [Case; 17] = [
         Case::Block,
         Case::Seal,
         Case::Unseal,
@@ -65,6 +73,11 @@ impl Case {
         Case::Turn,
         Case::Mutex,
         Case::Lease,
+        Case::LeaseAsk,
+        Case::LeaseHolds,
+        Case::LeaseLive,
+        Case::LeaseGrant,
+        Case::LeaseRelease,
         Case::Window,
     ];
 
@@ -82,6 +95,11 @@ impl Case {
             "turn" => Some(Case::Turn),
             "mutex" => Some(Case::Mutex),
             "lease" => Some(Case::Lease),
+            "lease_ask" => Some(Case::LeaseAsk),
+            "lease_holds" => Some(Case::LeaseHolds),
+            "lease_live" => Some(Case::LeaseLive),
+            "lease_grant" => Some(Case::LeaseGrant),
+            "lease_release" => Some(Case::LeaseRelease),
             "window" => Some(Case::Window),
             _ => None,
         }
@@ -100,6 +118,11 @@ impl Case {
             Case::Turn => "turn",
             Case::Mutex => "mutex",
             Case::Lease => "lease",
+            Case::LeaseAsk => "lease_ask",
+            Case::LeaseHolds => "lease_holds",
+            Case::LeaseLive => "lease_live",
+            Case::LeaseGrant => "lease_grant",
+            Case::LeaseRelease => "lease_release",
             Case::Window => "window",
         }
     }
@@ -118,7 +141,12 @@ impl Case {
             Case::Turn => turns(rt, alloc, 2) == Some(2),
             Case::Mutex => mutexes(rt, 2) == 2,
             Case::Lease => leases(alloc, 1) == Some(1),
-            Case::Window => windows(34) == Some((33, u32::MAX)),
+            Case::LeaseAsk => looks(alloc, Look::Ask, 1) == Some(1),
+            Case::LeaseHolds => looks(alloc, Look::Holds, 1) == Some(1),
+            Case::LeaseLive => looks(alloc, Look::Live, 1) == Some(1),
+            Case::LeaseGrant => renewals(alloc, 1) == Some(65534),
+            Case::LeaseRelease => releases(alloc, 1) == Some(65533),
+            Case::Window => windows(2000, 7) == Some(WINDOW),
         }
     }
 
@@ -137,7 +165,12 @@ impl Case {
             Case::Turn => turns(rt, alloc, count).is_some_and(|held| held != 0),
             Case::Mutex => mutexes(rt, count) != 0,
             Case::Lease => leases(alloc, count) == Some(count),
-            Case::Window => windows(count) != Some((0, 1)),
+            Case::LeaseAsk => looks(alloc, Look::Ask, count) == Some(count),
+            Case::LeaseHolds => looks(alloc, Look::Holds, count) == Some(count),
+            Case::LeaseLive => looks(alloc, Look::Live, count) == Some(count),
+            Case::LeaseGrant => renewals(alloc, count) > Some(65533),
+            Case::LeaseRelease => releases(alloc, count) == Some(65533),
+            Case::Window => windows(count, count) != None,
         }
     }
 }

@@ -39,6 +39,12 @@ open_request
 protect_answer
           protects an answer of 28 bytes
 lease     forgets a grant, refuses an ask, looks up a lease and renews it, all 65,533 addresses being held
+lease_ask, lease_holds, lease_live
+          asks in vain for an address of a full pool, and looks up a lease, of 65,533
+lease_grant
+          forgets a grant and renews another, of 103,600 kept
+lease_release
+          releases one pledge of 65,533, and grants its address anew
 window    judges a number by the replay window, and takes it
 ";
 

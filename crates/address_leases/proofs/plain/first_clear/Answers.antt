@@ -1,4 +1,4 @@
-use Rattle.std.proofs.Common.{sym, ◌∙◌, arith, rules}
+use Rattle.std.proofs.Common.{arith, rules}
 use Rattle.address_leases.proofs.PlainLemmas.{first_clear_free, all_marked}
 use Rattle.address_leases.proofs.plain.first_clear.Goals as goal
 

@@ -1,4 +1,4 @@
-use Rattle.std.proofs.Common.{refl, sym, ◌∙◌, ap, subst, arith, rules, true≢false, length, take, slice_index_or, [], ◌≡◌, ◌+◌}
+use Rattle.std.proofs.Common.{refl, sym, ◌∙◌, subst, arith, true≢false, length, take, slice_index_or, [], ◌≡◌, ◌+◌}
 use Rattle.std.proofs.lemmas.List.{take_all}
 use Rattle.address_leases.specs.declared.grant.Grant.{Grant}
 use Rattle.address_leases.specs.Plain.{AreMarks}

@@ -1,4 +1,4 @@
-use Rattle.std.proofs.Common.{◌≡◌, refl, sym, ◌∙◌, ap, subst, arith, rules, [], ◌∷◌, ◌++◌, ◌-◌, filter}
+use Rattle.std.proofs.Common.{◌≡◌, ap, subst, arith, rules, [], ◌∷◌, ◌++◌, ◌-◌, filter}
 use Rattle.std.specs.Vec.{vec_capacity}
 use Rattle.std.proofs.lemmas.Fn.{filter_same}
 use Rattle.address_leases.specs.declared.grant.Grant.{Grant}

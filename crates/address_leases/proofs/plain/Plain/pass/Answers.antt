@@ -1,9 +1,8 @@
-use Rattle.std.proofs.Common.{◌≡◌, ◌≤◌, refl, sym, ◌∙◌, ap, subst, arith, rules, filter, length, ◌+◌, ◌-◌}
+use Rattle.std.proofs.Common.{◌≡◌, ap, subst, arith, rules, filter, length, ◌+◌, ◌-◌}
 use Rattle.std.specs.Vec.{vec_capacity}
 use Rattle.std.proofs.lemmas.Fn.{filter_same}
 use Rattle.address_leases.specs.Lent.{Lent}
 use Rattle.address_leases.specs.Steps.{is_kept, Passes}
-use Rattle.address_leases.specs.Plain.{ArePlain}
 use Rattle.address_leases.proofs.PlainLemmas.{plain_filtered, plain_passes}
 use Rattle.address_leases.proofs.plain.Plain.pass.Goals as goal
 
