@@ -158,8 +158,13 @@ plain_granted g grants lasts room new capacity capacity_of_lasts are less =
         | inr same ↦ subst (λ (y : Grant). last_of (others ++ g ∷ []) y.id ≡ Some y) same (last_of-pushed others g none)
       ];
       fewer = λ test.
-          omega (arith, are.fewer test, count_by-filter_le test (is_of_another g.id) lasts,
-          sum_by-append (λ x. cond (test x) 1 0) grants (g ∷ []), sum_by-append (λ x. cond (test x) 1 0) others (g ∷ []));
+          omega (
+            arith,
+            are.fewer test,
+            count_by-filter_le test (is_of_another g.id) lasts,
+            sum_by-append (λ x. cond (test x) 1 0) grants (g ∷ []),
+            sum_by-append (λ x. cond (test x) 1 0) others (g ∷ []),
+          );
       fits = omega (arith, are.fits, less, long);
       lasts_fit = omega (arith, are.lasts_fit, less, long);
       small = omega (arith, are.small, less, long);

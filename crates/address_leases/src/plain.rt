@@ -83,7 +83,9 @@ impl Plain {
         requires { self.now.passed ≤ now }
         ensures { IsTrue result ↔ Holds self.now.grants now address id }
     {
-        self.grants.iter().any(|grant| is_held(grant, address, now) && grant.id == id)
+        self.grants
+            .iter()
+            .any(|grant| is_held(grant, address, now) && grant.id == id)
     }
 
     pub(crate) fn live(&self, id: PledgeId, now: u64) -> Option<u16>

@@ -170,7 +170,10 @@ impl Case {
             Case::LeaseLive => looks(alloc, Look::Live, count) == Some(count),
             Case::LeaseGrant => renewals(alloc, count) > Some(65533),
             Case::LeaseRelease => releases(alloc, count) == Some(65533),
-            Case::Window => windows(count, count) != None,
+            Case::Window => match windows(count, count) {
+                None => false,
+                Some((greatest, bits)) => greatest ^ bits as u64 != 0xffff_ffff_ffff,
+            },
         }
     }
 }

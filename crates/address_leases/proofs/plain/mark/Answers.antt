@@ -18,17 +18,18 @@ loop-grant-preserved c =
     let n = c.loop-grant.grant-index in
     let d : Grant = record { until = 0; address = 0; id = record { 0 = [] } } in
     let g = slice_index_or grants n d in
-    let len : length c.loop-grant.marks ≡ 65536 = c.loop-grant.invariant.0 in
-    (c.if-is_against.auto.marks ∙ len,
-    elim c.if-is_against.branch [
-      | then-is_against w ↦
-          subst (λ l. AreMarks l (take (n + 1) grants) c.args.now c.args.id) (sym w.marks-is)
-          (marks_set c.loop-grant.marks grants n c.args.now c.args.id g d len (omega arith) refl (c.is_against.ensures.0 w.if-is_against.true) c.loop-grant.invariant.1)
-      | else-is_against w ↦
-          subst (λ l. AreMarks l (take (n + 1) grants) c.args.now c.args.id) (sym w.marks-is)
-          (marks_same c.loop-grant.marks grants n c.args.now c.args.id g d (omega arith) refl
-          (λ against. true≢false (sym (c.is_against.ensures.1 against) ∙ w.if-is_against.false)) c.loop-grant.invariant.1)
-    ])
+    let len : length c.loop-grant.marks ≡ 65536 = c.loop-grant.invariant.0 in (
+      c.if-is_against.auto.marks ∙ len,
+      elim c.if-is_against.branch [
+        | then-is_against w ↦
+            subst (λ l. AreMarks l (take (n + 1) grants) c.args.now c.args.id) (sym w.marks-is)
+            (marks_set c.loop-grant.marks grants n c.args.now c.args.id g d len (omega arith) refl (c.is_against.ensures.0 w.if-is_against.true) c.loop-grant.invariant.1)
+        | else-is_against w ↦
+            subst (λ l. AreMarks l (take (n + 1) grants) c.args.now c.args.id) (sym w.marks-is)
+            (marks_same c.loop-grant.marks grants n c.args.now c.args.id g d (omega arith) refl
+            (λ against. true≢false (sym (c.is_against.ensures.1 against) ∙ w.if-is_against.false)) c.loop-grant.invariant.1)
+      ],
+    )
 
 pub returns-clause-marks : goal.returns-clause-marks
 returns-clause-marks c =

@@ -10,9 +10,16 @@ use Rattle.address_leases.proofs.plain.Plain.grant.Goals as goal
 
 pub push_reserved-requires : goal.push_reserved-requires
 push_reserved-requires c =
-    omega (arith, c.retain.ensures.bound, c.retain.ensures.capacity, c.self.invariant.lasts_fit, c.self.inside.lasts.ok.0,
-    fewer_lasts c.self.inside.grants.items c.self.inside.lasts.items c.self.invariant.fewer,
-    ap (λ (v : Lent). v.room) c.self.view_is, c.requires)
+    omega (
+      arith,
+      c.retain.ensures.bound,
+      c.retain.ensures.capacity,
+      c.self.invariant.lasts_fit,
+      c.self.inside.lasts.ok.0,
+      fewer_lasts c.self.inside.grants.items c.self.inside.lasts.items c.self.invariant.fewer,
+      ap (λ (v : Lent). v.room) c.self.view_is,
+      c.requires,
+    )
 
 pub invariant_of-self : goal.invariant_of-self
 invariant_of-self c =
