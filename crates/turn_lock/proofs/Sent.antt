@@ -22,5 +22,4 @@ pub pass_send : (V Item Origin : RattleType) (g : Ghosts V.Denot Item.Denot Orig
 pass_send V Item Origin g s =
     let place = seat.the_send (option.the_row V) (known.the_row V) (option_send V s) in
     let start = snapshot_send (start.the_row V) in
-    let seen = snapshot_send (snapshot.the_row V) in
-    view_send _ _ _ _ _ (recorded_send (inside.the_field V Item Origin g).row _ _ (inside.the_type V Item Origin g).to_one (struct_send (shape (inside.the_type V Item Origin g)) (place, (struct_send (shape (notes.the_type V)) (start, (seen, (search sendable depth 6, tt))), tt))))
+    view_send _ _ _ _ _ (recorded_send (inside.the_field V Item Origin g).row _ _ (inside.the_type V Item Origin g).to_one (struct_send (shape (inside.the_type V Item Origin g)) (place, (struct_send (shape (notes.the_type V)) (start, (search sendable depth 6, tt)), tt))))

@@ -3,9 +3,10 @@
 // report and each place that was added is one pass's. The definitions are in specs/: Report, Locks, Rule, Ends.
 #![tactic(auto)]
 
-mod ends;
+mod closing;
 mod faults;
 mod held;
+mod laws;
 mod lends;
 mod lock;
 mod makes;
@@ -17,10 +18,12 @@ mod steps;
 #[cfg(test)]
 mod tests;
 
+pub use closing::Closing;
 pub use faults::NoMemory;
 pub use held::Held;
+pub use laws::addition_laws;
 pub use lock::TurnLock;
 pub use numbers::{Numbers, add, end};
 pub use pass::Pass;
 pub use reports::Reports;
-pub use rule::{Addition, ByTurns, Start, View};
+pub use rule::{Addition, ByTurns, Returned, Start, View};

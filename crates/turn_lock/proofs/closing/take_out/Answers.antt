@@ -4,7 +4,7 @@ use Rattle.std.specs.Mem.Slots.{slots_items}
 use mathlib.Core.Option as home
 use Rattle.turn_lock.specs.Ends.{EndsWith}
 use Rattle.turn_lock.proofs.Ending.{ends_with}
-use Rattle.turn_lock.proofs.ends.close.Goals as goal
+use Rattle.turn_lock.proofs.closing.take_out.Goals as goal
 
 pub unwrap-value-requires : goal.unwrap-value-requires
 unwrap-value-requires g c =
@@ -22,5 +22,5 @@ returns g c =
     let is : c.take.result ≡ Some end.0 = home.some-injective c.take.result (Some end.0) (sym c.take.ensures.value ∙ end.1) in
     let both : Some end.0 ≡ Some c.unwrap-value.result = sym is ∙ c.unwrap-value.ensures in
     let same : end.0 ≡ c.unwrap-value.result = cc both in
-    let P : g.row.V.Denot → Type 0 = λ x. EndsWith g.V.Reports.report g.V.Reports.origin t.key.passes t.key.opening.value x c.args.place.me.0 in
+    let P : g.row.V.Denot → Type 0 = λ x. EndsWith g.V.Reports.report g.V.Reports.origin t.key.opening.value x c.args.place.me.0 in
     subst P same end.2
