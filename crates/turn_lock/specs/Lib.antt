@@ -5,3 +5,4 @@ pub mod Locks
 pub mod Ends
 pub mod Seated
 pub mod Numbers
+pub mod Press
