@@ -1,5 +1,5 @@
 -- The order of the additions of one lock's passes.
-use Rattle.std.proofs.Common.{◌≡◌, ◌≢◌, ℕ, All, ◌+◌, ◌<◌, ◌≤◌, List, [], ◌∷◌, ◌++◌, length, refl, sym, ap, ◌∙◌, subst, ⊎_elim, inl, inr, arith, length-append, append_assoc}
+use Rattle.std.proofs.Common.{◌≡◌, ◌≢◌, ℕ, All, ◌+◌, ◌<◌, ◌≤◌, List, [], ◌∷◌, ◌++◌, length, sym, ap, ◌∙◌, subst, ⊎_elim, inl, inr, arith, length-append, append_assoc}
 use mathlib.Core.Logic.{◌⊎◌}
 use Rattle.std.proofs.lemmas.Bool.{cases_order}
 use Rattle.std.proofs.lemmas.List.Elements.{All-nil, All-append, All-head, All-tail}
@@ -7,7 +7,7 @@ use Rattle.turn_lock.specs.declared.rule.Addition.{Addition}
 use Rattle.turn_lock.specs.Report.{Report, Each, MayFollow, IsGrowing}
 use Rattle.turn_lock.specs.Views.{numbers_of}
 use Rattle.turn_lock.specs.Rule.{IsAdded}
-use Rattle.seat_sums.specs.Counts.{times, once_within}
+use Rattle.seat_sums.specs.Counts.{times}
 use Rattle.turn_lock.specs.Locks.{PassView}
 use Rattle.turn_lock.specs.Ends.{own_over, AtTwoPlaces, RaiseApart, ComesBefore, IsOrdered, IsReported}
 use Rattle.turn_lock.proofs.ListLemmas.{numbers_of-append, Each-back}

@@ -1,12 +1,12 @@
 -- What a pass keeps of its seat through a turn.
-use Rattle.std.proofs.Common.{◌≡◌, ℕ, ◌+◌, ◌^◌, ◌<◌, true, false, Option, None, List, [], ◌∷◌, ◌++◌, All, length, refl, sym, ap, ◌∙◌, subst, arith, length-append}
+use Rattle.std.proofs.Common.{◌≡◌, ℕ, ◌+◌, ◌^◌, ◌<◌, true, false, Option, List, [], ◌∷◌, ◌++◌, All, refl, sym, ap, ◌∙◌, subst, arith, length-append}
 use Rattle.std.proofs.lemmas.List.Elements.{All-head, All-tail}
 use Rattle.atomic_table.specs.Table.{Me}
 use Rattle.atomic_table.specs.Seated.{TableId}
 use Rattle.turn_lock.specs.declared.rule.View.{View}
 use Rattle.turn_lock.specs.declared.rule.Start.{Start}
 use Rattle.turn_lock.specs.Report.{Report, MayFollow}
-use Rattle.turn_lock.specs.Views.{addition, last_or, with_ticket, at_turn, with_value, without_ticket}
+use Rattle.turn_lock.specs.Views.{addition, last_or}
 use Rattle.turn_lock.specs.Locks.{PassView, with_turn, with_report}
 use Rattle.turn_lock.specs.Seated.{IsLast, lock_of, last_seen, pass_of, IsSeated, TookTurn, EndedTurn}
 use Rattle.turn_lock.proofs.Sharing.{last_or-snoc}

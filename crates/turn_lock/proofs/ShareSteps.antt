@@ -1,5 +1,5 @@
 -- What one seat has seen is told to another, and a seat that stands for no pass comes: these steps keep the rule.
-use Rattle.std.proofs.Common.{◌≡◌, ◌≢◌, ℕ, ◌+◌, Bool, true, false, Option, List, [], ◌∷◌, ◌++◌, length, set, refl, sym, ap, ◌∙◌, subst, ⊎_elim, inl, inr, cond, arith, length-set}
+use Rattle.std.proofs.Common.{◌≡◌, ◌≢◌, ℕ, ◌+◌, Bool, true, false, Option, List, [], ◌∷◌, ◌++◌, set, refl, sym, ap, ◌∙◌, subst, ⊎_elim, cond, arith, length-set}
 use Rattle.std.specs.Prelude.{slice_index}
 use mathlib.Core.Option as home
 use mathlib.Core.List.{IsPrefix}

@@ -1,5 +1,4 @@
-use Rattle.std.proofs.Common.{◌≡◌, ℕ, List, [], ◌∷◌, ◌++◌, length, sym, ap, ◌∙◌, arith}
-use Rattle.turn_lock.specs.declared.rule.Addition.{Addition}
+use Rattle.std.proofs.Common.{◌≡◌, ℕ, [], ◌∷◌, ◌++◌, length, sym, ap, ◌∙◌, arith}
 use Rattle.turn_lock.specs.declared.numbers.Numbers.{Numbers}
 use Rattle.turn_lock.specs.Views.{addition}
 use Rattle.turn_lock.specs.Locks.{PassView}

@@ -1,4 +1,4 @@
-use Rattle.std.proofs.Common.{◌≡◌, ℕ, ◌+◌, false, Some, List, [], ◌∷◌, ◌++◌, All, length, ap, ◌∙◌, subst, arith, length-append}
+use Rattle.std.proofs.Common.{◌≡◌, ◌+◌, false, Some, List, [], ◌∷◌, All, length, ap, ◌∙◌, subst, arith, length-append}
 use Rattle.std.proofs.lemmas.List.Elements.{All-pop, All-head}
 use Rattle.turn_lock.specs.declared.numbers.Numbers.{Numbers}
 use Rattle.turn_lock.specs.declared.press.Worker.{Worker}

@@ -1,7 +1,7 @@
 use Rattle.std.proofs.Common.{◌≡◌, ◌<◌, All, sym, ap, ◌∙◌, subst}
 use Rattle.turn_lock.specs.Locks.{LockView, PassView, numbers_in}
 use Rattle.turn_lock.specs.Views.{last_or}
-use Rattle.turn_lock.specs.Seated.{lock_of, last_seen, EndedTurn}
+use Rattle.turn_lock.specs.Seated.{last_seen, EndedTurn}
 use Rattle.turn_lock.proofs.Seating.{has_given, given_view}
 use Rattle.turn_lock.proofs.held.Held.give.Goals as goal
 

@@ -2,7 +2,7 @@ use Rattle.std.proofs.Common.{◌≡◌, false, Some, [], ◌∷◌, ◌++◌, A
 use Rattle.std.proofs.lemmas.List.{nil_from_length}
 use Rattle.std.proofs.lemmas.List.Elements.{All-pop}
 use Rattle.turn_lock.specs.Report.{GrowsTo}
-use Rattle.turn_lock.specs.Locks.{LockView, PassView, ClosingView}
+use Rattle.turn_lock.specs.Locks.{PassView, ClosingView}
 use Rattle.turn_lock.proofs.lock.TurnLock.finish.Goals as goal
 
 pub loop-pass-preserved : goal.loop-pass-preserved

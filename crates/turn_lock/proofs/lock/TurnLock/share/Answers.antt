@@ -4,7 +4,7 @@ use Rattle.turn_lock.specs.declared.rule.View.{View}
 use Rattle.turn_lock.specs.Report.{GrowsTo}
 use Rattle.turn_lock.specs.Views.{last_or, heard, IsOne}
 use Rattle.turn_lock.specs.Locks.{LockView, PassView}
-use Rattle.turn_lock.specs.Seated.{last_seen, IsLast}
+use Rattle.turn_lock.specs.Seated.{IsLast}
 use Rattle.turn_lock.proofs.Sharing.{have_shared}
 use Rattle.turn_lock.proofs.lock.TurnLock.share.Goals as goal
 

@@ -1,4 +1,4 @@
-use Rattle.std.proofs.Common.{◌≡◌, false, sym, ap, ◌∙◌, subst}
+use Rattle.std.proofs.Common.{ap, ◌∙◌, subst}
 use Rattle.turn_lock.specs.Report.{GrowsTo}
 use Rattle.turn_lock.specs.Locks.{LockView, PassView}
 use Rattle.turn_lock.proofs.Seating.{has_taken, taken_view}
