@@ -1,6 +1,6 @@
 // A lock by turns for one value, whose holders know what came before them.
-// It promises the layer above that who takes the lock finds a value that follows all that its pass has seen, and that each
-// report and each place that was added is one pass's. The definitions are in specs/: Report, Locks, Rule, Ends.
+// It promises the layer above that who takes the lock finds a value that follows all that its pass has seen, that each report, with
+// the values found and left, is one pass's, and that passes share what they saw. Definitions: specs/ Report, Locks, Rule, Ends.
 #![tactic(auto)]
 
 mod closing;
