@@ -9,6 +9,7 @@ use lib.ListN.{get_elem?}
 use Rattle.atomic_table.specs.Table.{Me, step, Allows, keeps, stepped}
 use Rattle.atomic_table.proofs.Lists.{at_set}
 use Rattle.turn_lock.specs.declared.rule.Addition.{Addition}
+use Rattle.turn_lock.specs.declared.rule.Returned.{Returned}
 use Rattle.turn_lock.specs.declared.rule.View.{View}
 use Rattle.turn_lock.specs.Report.{Report, MayFollow}
 use Rattle.turn_lock.specs.Views.{addition, run, numbers_of, places_of, with_value, Reported}
@@ -50,8 +51,8 @@ module _ {V I O : Type 0} (report : V → Report I) (origin : V → O) (passes :
         (λ x some_time. (within_from_once 1 count x (omega (arith, part_of_total (number_times x) views id v at, st.numbers x))).1)
 
     module _ (value : V) (has : v.turn ≡ true) (may : MayFollow report origin last value) (room : length v.own < 2 ^ 47 * v.passes) where
-      abbrev a : Addition
-      a = addition count (size last) (size value)
+      abbrev a : Addition V
+      a = addition count last value
 
       abbrev w : View V
       w = with_value v value a
@@ -75,43 +76,44 @@ module _ {V I O : Type 0} (report : V → Report I) (origin : V → O) (passes :
       counted_now : count + 1 ≡ 1 + total number_count (set views id w)
       counted_now = omega (arith, length-append v.own (a ∷ []), total_set number_count views id v w at, st.counted)
 
-      places_now : (x : ℕ) → total (place_times x) (set views id w) ≡ once_within (size opening) (size value) x
+      places_now : (x : ℕ) → total (place_times report x) (set views id w) ≡ once_within (size opening) (size value) x
       places_now x =
           let opened = opening_to_last report origin opening before last st.opens st.growing in
           let low : size opening ≤ size last = prefix_fits (report opening).items (report last).items opened.0.0 in
           let high : size last ≤ size value = prefix_fits (report last).items (report value).items may.0.0 in
           let r : List ℕ = run (size last) (size value - size last) in
-          let joins : place_times x w ≡ place_times x v + (times x r + 0) = ap (times x) (places_of-append v.own (a ∷ [])) ∙ times-append x (places_of v.own) (r ++ []) ∙ ap (λ (k : ℕ). place_times x v + k) (times-append x r []) in
+          let joins : place_times report x w ≡ place_times report x v + (times x r + 0) = ap (times x) (places_of-append report v.own (a ∷ [])) ∙ times-append x (places_of report v.own) (r ++ []) ∙ ap (λ (k : ℕ). place_times report x v + k) (times-append x r []) in
           let end : size last + (size value - size last) ≡ size value = omega arith in
           let added : times x r ≡ once_within (size last) (size value) x = times-run x (size last) (size value - size last) ∙ ap (λ (to : ℕ). once_within (size last) to x) end in
-          omega (arith, joins, added, total_set (place_times x) views id v w at, st.places x, once_within-joins (size opening) (size last) (size value) x low high)
+          omega (arith, joins, added, total_set (place_times report x) views id v w at, st.places x, once_within-joins (size opening) (size last) (size value) x low high)
 
-      fits_more : (u : View V) → Fits report origin turn (before ++ last ∷ []) u → (u.turn ≡ true → 1 ≤ 0) → Fits report origin turn all u
+      fits_more : (u : View V) → Fits turn (before ++ last ∷ []) u → (u.turn ≡ true → 1 ≤ 0) → Fits turn all u
       fits_more u fits none = record {
         seen = prefix_more u.seen (before ++ last ∷ []) (value ∷ []) fits.seen;
         also = Each-map (λ (xs : List V). IsPrefix xs (before ++ last ∷ [])) (λ (xs : List V). IsPrefix xs all) u.also (λ xs p. prefix_more xs (before ++ last ∷ []) (value ∷ []) p) fits.also;
         holds = λ so. absurd (omega (arith, none so));
-        own = Each-map (IsAdded report origin (before ++ last ∷ [])) (IsAdded report origin all) u.own (λ b is. added_more report origin (before ++ last ∷ []) (value ∷ []) b is) fits.own;
+        own = Each-map (IsAdded (before ++ last ∷ [])) (IsAdded all) u.own (λ b is. added_more (before ++ last ∷ []) (value ∷ []) b is) fits.own;
         few = fits.few;
         turns = fits.turns;
         waits = fits.waits;
+        returned = Each-map (λ (back : Returned V). IsPrefix back.seen (before ++ last ∷ [])) (λ (back : Returned V). IsPrefix back.seen all) u.returned (λ back p. prefix_more back.seen (before ++ last ∷ []) (value ∷ []) p) fits.returned;
       }
 
-      fits_now : Fits report origin turn all w
+      fits_now : Fits turn all w
       fits_now =
           let fits = st.fits id v at in
           let held = fits.holds has in
           let seen : v.seen ++ value ∷ [] ≡ all = ap (λ (l : List V). l ++ value ∷ []) held.1 in
-          let new : IsAdded report origin all (addition (length before + 1) (size last) (size value)) = added_now report origin before last value in
-          let mine : IsAdded report origin all a = subst (λ (n : ℕ). IsAdded report origin all (addition n (size last) (size value))) (sym st.list) new in
+          let mine : IsAdded all a = subst (λ (n : ℕ). IsAdded all (addition n last value)) (sym st.list) (added_now before last value) in
           record {
             seen = subst (λ (l : List V). IsPrefix l all) (sym seen) (prefix_self all);
             also = Each-map (λ (xs : List V). IsPrefix xs (before ++ last ∷ [])) (λ (xs : List V). IsPrefix xs all) v.also (λ xs p. prefix_more xs (before ++ last ∷ []) (value ∷ []) p) fits.also;
             holds = λ _. (held.0, seen);
-            own = Each-append (IsAdded report origin all) v.own (a ∷ []) (Each-map (IsAdded report origin (before ++ last ∷ [])) (IsAdded report origin all) v.own (λ b is. added_more report origin (before ++ last ∷ []) (value ∷ []) b is) fits.own) (mine, tt);
+            own = Each-append (IsAdded all) v.own (a ∷ []) (Each-map (IsAdded (before ++ last ∷ [])) (IsAdded all) v.own (λ b is. added_more (before ++ last ∷ []) (value ∷ []) b is) fits.own) (mine, tt);
             few = omega (arith, length-append v.own (a ∷ []));
             turns = fits.turns;
             waits = fits.waits;
+            returned = Each-map (λ (back : Returned V). IsPrefix back.seen (before ++ last ∷ [])) (λ (back : Returned V). IsPrefix back.seen all) v.returned (λ back p. prefix_more back.seen (before ++ last ∷ []) (value ∷ []) p) fits.returned;
           }
 
       pub stands_by_report : Stands report origin passes opening ticket turn (count + 1) homes (set views id w) (before ++ last ∷ []) value
@@ -131,7 +133,7 @@ module _ {V I O : Type 0} (report : V → Report I) (origin : V → O) (passes :
             all_passes = total_kept passes_of views id v w at refl ∙ st.all_passes;
             few = st.few;
             fits = λ j u there. ⊎_elim
-                (λ (x : (j ≡ id) × (w ≡ u)). subst (Fits report origin turn all) x.1 fits_now)
+                (λ (x : (j ≡ id) × (w ≡ u)). subst (Fits turn all) x.1 fits_now)
                 (λ (x : (j ≢ id) × (get_elem? views j ≡ home.some u)). fits_more u (st.fits j u x.1) (λ so. nobody_else report origin passes opening ticket turn count homes views before last st id v at held.0 j u x.1 x.0 so))
                 (at_set views id j w u there);
           }
@@ -151,7 +153,7 @@ module _ {V I O : Type 0} (report : V → Report I) (origin : V → O) (passes :
       let may' : MayFollow report origin last value = subst (λ (x : V). MayFollow report origin x value) same may in
       let small = count_bound ticket turn reports s.homes s.views kept.before last st id v at in
       let next : (reports + 1) % 2 ^ 64 ≡ reports + 1 = mod-eq_of_lt (omega arith) in
-      let w' = with_value v value (addition reports (size last) (size value)) in
+      let w' = with_value v value (addition reports last value) in
       let now : IsKept report origin passes opening (stepped s 2 (reports + 1) id me.1 w' keeps) = record {
         before = kept.before ++ last ∷ [];
         last = value;
@@ -168,7 +170,7 @@ module _ {V I O : Type 0} (report : V → Report I) (origin : V → O) (passes :
             let was : last ≡ found' = (snoc_same kept.before earlier last found' (sym held.1 ∙ seen')).1 in
             let both : (0, Some value) ∷ [] ≡ (0, Some value') ∷ [] = sym out_is ∙ out' in
             let is : value ≡ value' = ap (first_value value) both in (
-              ap (λ (x : V × V). (with_value v x.1 (addition reports (size x.0) (size x.1)), me.1)) {x = (last, value)} {y = (found', value')} (λ i. (was i, is i)),
+              ap (λ (x : V × V). (with_value v x.1 (addition reports x.0 x.1), me.1)) {x = (last, value)} {y = (found', value')} (λ i. (was i, is i)),
               past_first ticket turn reports s.homes s.views kept.before last st id v at,
               rising ticket turn reports s.homes s.views kept.before last st id v at,
             ),

@@ -32,14 +32,14 @@ module _ {V I O : Type 0} (report : V → Report I) (origin : V → O) (passes :
         taken = omega (arith, total_set turns_of views id v w at, st.taken);
         numbers = λ x. total_kept (number_times x) views id v w at refl ∙ st.numbers x;
         counted = st.counted ∙ ap (λ (k : ℕ). 1 + k) (sym (total_kept number_count views id v w at refl));
-        places = λ x. total_kept (place_times x) views id v w at refl ∙ st.places x;
+        places = λ x. total_kept (place_times report x) views id v w at refl ∙ st.places x;
         list = st.list;
         opens = st.opens;
         growing = st.growing;
         slot = slot_kept homes last views id v w at (sym idle) st.slot;
         all_passes = total_kept passes_of views id v w at refl ∙ st.all_passes;
         few = st.few;
-        fits = fits_set report origin turn (before ++ last ∷ []) views id w st.fits record {
+        fits = fits_set turn (before ++ last ∷ []) views id w st.fits record {
           seen = fits.seen;
           also = fits.also;
           holds = λ e. absurd (cc e);
@@ -47,6 +47,7 @@ module _ {V I O : Type 0} (report : V → Report I) (origin : V → O) (passes :
           few = fits.few;
           turns = omega arith;
           waits = omega arith;
+          returned = fits.returned;
         };
       }
 

@@ -1,24 +1,34 @@
 -- What the seat of all passes knows once nobody steps.
-use Rattle.std.proofs.Common.{◌≡◌, ◌≢◌, ℕ, ◌≤◌, true, false, Option, Some, List, [], ◌∷◌, ◌++◌, All, length, refl, sym, ap, ◌∙◌, subst, ⊎_elim, inl, inr, arith}
+use Rattle.std.proofs.Common.{◌≡◌, ◌≢◌, ℕ, ◌≤◌, true, false, Option, Some, List, [], ◌∷◌, ◌++◌, All, map, length, refl, sym, ap, ◌∙◌, subst, ⊎_elim, inl, inr, arith, append_assoc}
 use Rattle.std.specs.Prelude.{slice_index}
 use Rattle.std.proofs.lemmas.Bool.{cases_eq}
 use mathlib.Core.Option as home
+use mathlib.Core.List.{IsPrefix}
 use lib.ListN.{get_elem?}
-use Rattle.atomic_table.specs.Table.{State, Final, Seen}
+use Rattle.atomic_table.specs.Table.{State, Me, Final, Seen}
 use Rattle.turn_lock.specs.declared.rule.Addition.{Addition}
+use Rattle.turn_lock.specs.declared.rule.Returned.{Returned}
 use Rattle.turn_lock.specs.declared.rule.View.{View}
-use Rattle.turn_lock.specs.Report.{Report, GrowsTo, MayFollow}
-use Rattle.turn_lock.specs.Views.{numbers_of, places_of}
-use Rattle.turn_lock.specs.Rule.{Each, number_times, place_times, passes_of, IsSlot, IsGrowing, IsAdded, IsKept}
+use Rattle.turn_lock.specs.Report.{Report, Each, GrowsTo, MayFollow, IsGrowing}
+use Rattle.turn_lock.specs.Views.{numbers_of, places_of, last_or}
+use Rattle.turn_lock.specs.Rule.{number_times, place_times, passes_of, IsSlot, IsAdded, IsKept}
 use Rattle.seat_sums.specs.Counts.{times, once_within, total}
-use Rattle.turn_lock.specs.Locks.{PassView}
-use Rattle.turn_lock.specs.Ends.{own_over, places_over, Among, Gathers, EndsWith, IsReported}
+use Rattle.turn_lock.specs.Locks.{LockView, PassView}
+use Rattle.turn_lock.specs.Seated.{IsLast, IsClosing, returned_pass, passes_back}
+use Rattle.turn_lock.specs.Ends.{own_over, places_over, Among, EndsWith, IsReported}
 use Rattle.turn_lock.proofs.ListLemmas.{Each-front, Each-back, All_from_Each}
 use Rattle.seat_sums.proofs.Sums.{parts_of_total, total-whole}
 use Rattle.turn_lock.proofs.Growth.{each_to_last, opening_to_last}
 use Rattle.std.proofs.lemmas.List.Elements.{All-nil, All-cons}
 
-none_owned : (own : List Addition) → length own ≤ 0 → own ≡ []
+last_among : {V : Type 0} (seen among : List V) (value : V) → IsLast seen value → IsPrefix seen among → Among among value
+last_among seen among value last p = record {
+  earlier = last.0;
+  later = p.0;
+  stands = sym (append_assoc last.0 (value ∷ []) p.0) ∙ ap (λ l. l ++ p.0) (sym last.1) ∙ p.1;
+}
+
+none_owned : {V : Type 0} (own : List (Addition V)) → length own ≤ 0 → own ≡ []
 none_owned [] short = refl
 none_owned (a ∷ own) short = absurd (omega arith)
 
@@ -44,7 +54,7 @@ module _ {V I O : Type 0} (report : V → Report I) (origin : V → O) (passes :
               (cases_eq empty.1.0 id)
         ]
 
-    ends : EndsWith report origin passes opening kept.last v
+    ends : EndsWith report origin opening kept.last v
     ends =
         let st = kept.stands in
         let fits = st.fits id v at in
@@ -55,19 +65,18 @@ module _ {V I O : Type 0} (report : V → Report I) (origin : V → O) (passes :
           opens = st.opens;
           growing = st.growing;
           numbers = λ x.
-              sym (total-whole (number_times x) passes_of s.views id v (λ j u there zero. ap (λ (own : List Addition). times x (numbers_of own)) (bare j u there zero)) at whole)
+              sym (total-whole (number_times x) passes_of s.views id v (λ j u there zero. ap (λ (own : List (Addition V)). times x (numbers_of own)) (bare j u there zero)) at whole)
               ∙ st.numbers x ∙ ap (λ (to : ℕ). once_within 1 to x) st.list;
           places = λ x.
-              sym (total-whole (place_times x) passes_of s.views id v (λ j u there zero. ap (λ (own : List Addition). times x (places_of own)) (bare j u there zero)) at whole)
+              sym (total-whole (place_times report x) passes_of s.views id v (λ j u there zero. ap (λ (own : List (Addition V)). times x (places_of report own)) (bare j u there zero)) at whole)
               ∙ st.places x;
           added = fits.own;
-          seen = fits.seen;
-          also = fits.also;
+          returned = fits.returned;
         }
 
   -- the value in the slot at the end, and what is known of it
   pub ends_with : (id : ℕ) (v : View V) (words : List ℕ) (slots : List (Option V)) → Final {S = Option V} (Seen (IsKept report origin passes opening) id v) words slots → v.passes ≡ passes → v.turn ≡ false
-      → (final : V) × (get_elem? slots 0 ≡ home.some (Some final)) × EndsWith report origin passes opening final v
+      → (final : V) × (get_elem? slots 0 ≡ home.some (Some final)) × EndsWith report origin opening final v
   ends_with id v words slots final all idle =
       let s = final.0 in
       let kept : IsKept report origin passes opening s = final.1.0 in
@@ -86,25 +95,34 @@ module _ {V I O : Type 0} (report : V → Report I) (origin : V → O) (passes :
   All-map : {X : Type 0} (P Q : X → Type 0) (xs : List X) → ((x : X) → P x → Q x) → All P xs → All Q xs
   All-map P Q xs f h k d inside = f (Rattle.std.specs.Prelude.slice_index_or xs k d) (h k d inside)
 
-  added_over : (P : Addition → Type 0) (done : List (PassView V)) → Each P (own_over done) → All (λ pass. All P pass.own) done
+  added_over : (P : Addition V → Type 0) (done : List (PassView V)) → Each P (own_over done) → All (λ pass. All P pass.own) done
   added_over P [] h = All-nil (λ (pass : PassView V). All P pass.own)
   added_over P (pass ∷ done) h =
       All-cons (λ (pass : PassView V). All P pass.own) pass done
       (All_from_Each P pass.own (Each-front P pass.own (own_over done) h))
       (added_over P done (Each-back P pass.own (own_over done) h))
 
+  -- a pass that was handed in saw one of the values last
+  seen_among : (lock : LockView V) (all : List V) (returned : List (Returned V)) → Each (λ (back : Returned V). IsLast back.seen (last_or lock.opening back.seen)) returned → Each (λ (back : Returned V). IsPrefix back.seen all) returned
+      → All (λ pass. Among all pass.seen) (map (returned_pass lock) returned)
+  seen_among lock all [] last seen = All-nil (λ (pass : PassView V). Among all pass.seen)
+  seen_among lock all (back ∷ returned) last seen =
+      All-cons (λ (pass : PassView V). Among all pass.seen) (returned_pass lock back) (map (returned_pass lock) returned)
+      (last_among back.seen all (last_or lock.opening back.seen) last.0 seen.0)
+      (seen_among lock all returned last.1 seen.1)
+
   -- what `finish` tells
   pub record Finished (final : V) (all : List (PassView V)) : Type 0 where
     pub follows : MayFollow report origin opening final
     pub seen : All (λ pass. GrowsTo (report pass.seen) (report final)) all
     pub reports : IsReported report origin opening final all
-    pub places : (place : ℕ) → times place (places_over all) ≡ once_within (length (report opening).items) (length (report final).items) place
+    pub places : (place : ℕ) → times place (places_over report all) ≡ once_within (length (report opening).items) (length (report final).items) place
 
-  pub finishes : (v : View V) (final : V) (all : List (PassView V)) → Gathers v [] all → EndsWith report origin passes opening final v → Finished final all
-  finishes v final all g e =
-      let own : v.own ≡ own_over all = g.own ∙ ap own_over g.cut in
-      let among : All (λ pass. Among (e.before ++ final ∷ []) pass.seen) all = subst (λ (done : List (PassView V)). All (λ pass. Among (e.before ++ final ∷ []) pass.seen) done) g.cut (g.seen (e.before ++ final ∷ []) e.seen e.also) in
-      let P : Addition → Type 0 = IsAdded report origin (e.before ++ final ∷ []) in
+  pub finishes : (lock : LockView V) (me : Me (Option V) (View V)) (final : V) → IsClosing lock me → EndsWith report origin opening final me.0 → Finished final (passes_back lock me.0)
+  finishes lock me final g e =
+      let all = passes_back lock me.0 in
+      let among : All (λ pass. Among (e.before ++ final ∷ []) pass.seen) all = seen_among lock (e.before ++ final ∷ []) me.0.returned g.last e.returned in
+      let P : Addition V → Type 0 = IsAdded (e.before ++ final ∷ []) in
       record {
         follows = opening_to_last report origin opening e.before final e.opens e.growing;
         seen = All-map (λ (pass : PassView V). Among (e.before ++ final ∷ []) pass.seen) (λ (pass : PassView V). GrowsTo (report pass.seen) (report final)) all (λ pass is. (to_last e.before final e.growing pass.seen is).0) among;
@@ -112,9 +130,9 @@ module _ {V I O : Type 0} (report : V → Report I) (origin : V → O) (passes :
           before = e.before;
           opens = e.opens;
           growing = e.growing;
-          once = λ x. ap (λ (l : List Addition). times x (numbers_of l)) (sym own) ∙ e.numbers x;
-          added = added_over P all (subst (Each P) own e.added);
+          once = λ x. ap (λ (l : List (Addition V)). times x (numbers_of l)) (sym g.own) ∙ e.numbers x;
+          added = added_over P all (subst (Each P) g.own e.added);
           seen = among;
         };
-        places = λ x. ap (λ (l : List Addition). times x (places_of l)) (sym own) ∙ e.places x;
+        places = λ x. ap (λ (l : List (Addition V)). times x (places_of report l)) (sym g.own) ∙ e.places x;
       }

@@ -2,9 +2,9 @@
 use Rattle.std.proofs.Common.{◌+◌, List, [], ◌∷◌, ◌++◌, length, refl, sym, ap, ◌∙◌, subst, arith, append_assoc}
 use mathlib.Core.List.{IsPrefix}
 use Rattle.turn_lock.specs.declared.rule.Addition.{Addition}
-use Rattle.turn_lock.specs.Report.{Report, MayFollow}
+use Rattle.turn_lock.specs.Report.{Report, Each, MayFollow, IsGrowing}
 use Rattle.turn_lock.specs.Views.{addition}
-use Rattle.turn_lock.specs.Rule.{Each, IsGrowing, IsAdded}
+use Rattle.turn_lock.specs.Rule.{IsAdded}
 use Rattle.turn_lock.proofs.ListLemmas.{prefix_self, prefix_trans, Each-append, Each-back}
 
 module _ {V I O : Type 0} (report : V → Report I) (origin : V → O) where
@@ -34,26 +34,19 @@ module _ {V I O : Type 0} (report : V → Report I) (origin : V → O) where
       let P : V → Type 0 = λ v. MayFollow report origin v last in
       (subst (Each P) (sym p.1) (each_to_last before last g)).0
 
-  pub added_more : (all more : List V) (a : Addition) → IsAdded report origin all a → IsAdded report origin (all ++ more) a
+module _ {V : Type 0} where
+  pub added_more : (all more : List V) (a : Addition V) → IsAdded all a → IsAdded (all ++ more) a
   added_more all more a is = record {
     earlier = is.earlier;
-    before = is.before;
-    after = is.after;
     later = is.later ++ more;
-    stands = sym (append_assoc is.earlier (is.before ∷ is.after ∷ is.later) more) ∙ ap (λ l. l ++ more) is.stands;
+    stands = sym (append_assoc is.earlier (a.found ∷ a.left ∷ is.later) more) ∙ ap (λ l. l ++ more) is.stands;
     number = is.number;
-    from = is.from;
-    until = is.until;
   }
 
-  pub added_now : (before : List V) (last new : V) → IsAdded report origin ((before ++ last ∷ []) ++ new ∷ []) (addition (length before + 1) (length (report last).items) (length (report new).items))
+  pub added_now : (before : List V) (last new : V) → IsAdded ((before ++ last ∷ []) ++ new ∷ []) (addition (length before + 1) last new)
   added_now before last new = record {
     earlier = before;
-    before = last;
-    after = new;
     later = [];
     stands = sym (append_assoc before (last ∷ []) (new ∷ []));
     number = refl;
-    from = refl;
-    until = refl;
   }

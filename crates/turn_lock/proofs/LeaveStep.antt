@@ -55,7 +55,7 @@ module _ {V I O : Type 0} (report : V → Report I) (origin : V → O) (passes :
           taken = total_kept turns_of views id v w at refl ∙ st.taken;
           numbers = λ x. total_kept (number_times x) views id v w at refl ∙ st.numbers x;
           counted = st.counted ∙ ap (λ (k : ℕ). 1 + k) (sym (total_kept number_count views id v w at refl));
-          places = λ x. total_kept (place_times x) views id v w at refl ∙ st.places x;
+          places = λ x. total_kept (place_times report x) views id v w at refl ∙ st.places x;
           list = st.list;
           opens = st.opens;
           growing = st.growing;
@@ -69,10 +69,10 @@ module _ {V I O : Type 0} (report : V → Report I) (origin : V → O) (passes :
           all_passes = total_kept passes_of views id v w at refl ∙ st.all_passes;
           few = st.few;
           fits = λ j u there. ⊎_elim
-              (λ (x : (j ≡ id) × (w ≡ u)). subst (Fits report origin (turn + 1) all) x.1 record { seen = fits.seen; also = fits.also; holds = λ e. absurd (cc e); own = fits.own; few = fits.few; turns = fits.turns; waits = omega arith })
+              (λ (x : (j ≡ id) × (w ≡ u)). subst (Fits (turn + 1) all) x.1 record { seen = fits.seen; also = fits.also; returned = fits.returned; holds = λ e. absurd (cc e); own = fits.own; few = fits.few; turns = fits.turns; waits = omega arith })
               (λ (x : (j ≢ id) × (get_elem? views j ≡ home.some u)).
               let theirs = st.fits j u x.1 in
-              record { seen = theirs.seen; also = theirs.also; holds = λ so. absurd (omega (arith, nobody j u x.1 x.0 so)); own = theirs.own; few = theirs.few; turns = theirs.turns; waits = theirs.waits })
+              record { seen = theirs.seen; also = theirs.also; returned = theirs.returned; holds = λ so. absurd (omega (arith, nobody j u x.1 x.0 so)); own = theirs.own; few = theirs.few; turns = theirs.turns; waits = theirs.waits })
               (at_set views id j w u there);
         }
 

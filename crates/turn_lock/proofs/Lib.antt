@@ -8,7 +8,10 @@ pub mod AdvanceStep
 pub mod LeaveStep
 pub mod NudgeStep
 pub mod PassSteps
-pub mod Gathering
+pub mod ShareSteps
+pub mod Sharing
+pub mod Seating
+pub mod Orders
 pub mod Ending
 pub mod Taking
 pub mod Opening

@@ -8,7 +8,7 @@ use Rattle.std.proofs.lemmas.List.{map-append}
 use Rattle.std.proofs.lemmas.List.Elements.{All-nil, All-cons}
 use Rattle.turn_lock.specs.declared.rule.Addition.{Addition}
 use Rattle.turn_lock.specs.Views.{run, numbers_of, places_of}
-use Rattle.turn_lock.specs.Rule.{Each}
+use Rattle.turn_lock.specs.Report.{Report, Each}
 use Rattle.seat_sums.specs.Counts.{times, once_within}
 use Rattle.seat_sums.proofs.Times.{once_within-none, once_within-joins}
 
@@ -25,14 +25,15 @@ times-run x from (suc n) =
     let now : times x (run from (suc n)) ≡ once_within from (from + 1 + n) x = omega arith in
     now ∙ ap (λ (to : ℕ). once_within from to x) same
 
-pub numbers_of-append : (xs ys : List Addition) → numbers_of (xs ++ ys) ≡ numbers_of xs ++ numbers_of ys
-numbers_of-append xs ys = map-append (λ (a : Addition). a.report) xs ys
+pub numbers_of-append : {V : Type 0} (xs ys : List (Addition V)) → numbers_of (xs ++ ys) ≡ numbers_of xs ++ numbers_of ys
+numbers_of-append {V} xs ys = map-append (λ (a : Addition V). a.report) xs ys
 
-pub places_of-append : (xs ys : List Addition) → places_of (xs ++ ys) ≡ places_of xs ++ places_of ys
-places_of-append [] ys = refl
-places_of-append (a ∷ xs) ys =
-    let r = run a.from (a.until - a.from) in
-    ap (λ l. r ++ l) (places_of-append xs ys) ∙ sym (append_assoc r (places_of xs) (places_of ys))
+pub places_of-append : {V I : Type 0} (report : V → Report I) (xs ys : List (Addition V)) → places_of report (xs ++ ys) ≡ places_of report xs ++ places_of report ys
+places_of-append report [] ys = refl
+places_of-append report (a ∷ xs) ys =
+    let from : ℕ = length (report a.found).items in
+    let r = run from (length (report a.left).items - from) in
+    ap (λ l. r ++ l) (places_of-append report xs ys) ∙ sym (append_assoc r (places_of report xs) (places_of report ys))
 
 module _ {X : Type 0} where
   pub prefix_self : (xs : List X) → IsPrefix xs xs

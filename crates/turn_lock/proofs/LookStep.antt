@@ -48,14 +48,14 @@ module _ {V I O : Type 0} (report : V → Report I) (origin : V → O) (passes :
           taken = total_kept turns_of views id v w at refl ∙ st.taken;
           numbers = λ x. total_kept (number_times x) views id v w at refl ∙ st.numbers x;
           counted = st.counted ∙ ap (λ (k : ℕ). 1 + k) (sym (total_kept number_count views id v w at refl));
-          places = λ x. total_kept (place_times x) views id v w at refl ∙ st.places x;
+          places = λ x. total_kept (place_times report x) views id v w at refl ∙ st.places x;
           list = st.list;
           opens = st.opens;
           growing = st.growing;
           slot = inr (refl, (id, w, here_after views id v w at, refl));
           all_passes = total_kept passes_of views id v w at refl ∙ st.all_passes;
           few = st.few;
-          fits = fits_set report origin turn all views id w st.fits record {
+          fits = fits_set turn all views id w st.fits record {
             seen = prefix_self all;
             also = fits.also;
             holds = λ _. (mine, refl);
@@ -63,6 +63,7 @@ module _ {V I O : Type 0} (report : V → Report I) (origin : V → O) (passes :
             few = fits.few;
             turns = fits.turns;
             waits = fits.waits;
+            returned = fits.returned;
           };
         }
 

@@ -19,9 +19,10 @@ module _ {V I O : Type 0} (report : V → Report I) (origin : V → O) (passes :
   stands_first : passes ≤ 65535 → Stands report origin passes opening 0 0 1 (home.some (Some opening) ∷ []) (first_view passes opening ∷ []) [] opening
   stands_first few =
       let v = first_view passes opening in
-      let fits : Fits report origin 0 (opening ∷ []) v = record {
+      let fits : Fits 0 (opening ∷ []) v = record {
         seen = prefix_self (opening ∷ []);
         also = tt;
+        returned = tt;
         holds = λ e. absurd (cc e);
         own = tt;
         few = omega arith;
@@ -41,7 +42,7 @@ module _ {V I O : Type 0} (report : V → Report I) (origin : V → O) (passes :
         slot = inl (refl, λ id u at. ap (λ (y : View V). y.turn) (sym (only_one v u id at)));
         all_passes = omega arith;
         few = few;
-        fits = λ id u at. subst (Fits report origin 0 (opening ∷ [])) (only_one v u id at) fits;
+        fits = λ id u at. subst (Fits 0 (opening ∷ [])) (only_one v u id at) fits;
       }
 
   pub kept_first : (words : List ℕ) (slots : List (Option V)) → words ≡ (0 ∷ 0 ∷ 1 ∷ []) ++ replicate passes 0 → slots ≡ Some opening ∷ [] → passes ≤ 65535 → IsKept report origin passes opening (table.opening words slots (first_view passes opening))

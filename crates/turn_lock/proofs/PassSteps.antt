@@ -22,7 +22,7 @@ longer_prefix xs ys all p q =
     elim (nat_le (length xs) (length ys)) as P [ true ↦ q | false ↦ p ]
 
 module _ {V : Type 0} where
-  slot_longer : (homes : List (home.Option (Option V))) (last : V) (views : List (View V)) (w : View V) → w.turn ≡ false → IsSlot homes last views → IsSlot homes last (views ++ w ∷ [])
+  pub slot_longer : (homes : List (home.Option (Option V))) (last : V) (views : List (View V)) (w : View V) → w.turn ≡ false → IsSlot homes last views → IsSlot homes last (views ++ w ∷ [])
   slot_longer homes last views w none (inl full) = inl (
     full.0,
     λ j u there. ⊎_elim
@@ -45,7 +45,7 @@ module _ {V I O : Type 0} (report : V → Report I) (origin : V → O) (passes :
       let fits = st.fits id v at in
       let views : List (View V) = set s.views id left in
       let turn : ℕ = slice_index s.words 1 in
-      let ours : Fits report origin turn all left = record {
+      let ours : Fits turn all left = record {
         seen = fits.seen;
         also = fits.also;
         holds = fits.holds;
@@ -53,15 +53,17 @@ module _ {V I O : Type 0} (report : V → Report I) (origin : V → O) (passes :
         few = let short : length v.own ≡ 0 = ap length bare in omega arith;
         turns = omega arith;
         waits = let short : length v.tickets ≡ 0 = ap length none in omega arith;
+        returned = fits.returned;
       } in
-      let theirs : Fits report origin turn all right = record {
+      let theirs : Fits turn all right = record {
         seen = fits.seen;
-        also = fits.also;
+        also = tt;
         holds = λ e. absurd (cc e);
         own = tt;
         few = omega arith;
         turns = omega arith;
         waits = omega arith;
+        returned = tt;
       } in
       record {
         before = kept.before;
@@ -73,7 +75,7 @@ module _ {V I O : Type 0} (report : V → Report I) (origin : V → O) (passes :
           taken = total_split turns_of s.views id v left right at (omega arith) ∙ st.taken;
           numbers = λ x. total_split (number_times x) s.views id v left right at (omega arith) ∙ st.numbers x;
           counted = st.counted ∙ ap (λ (k : ℕ). 1 + k) (sym (total_split number_count s.views id v left right at (omega arith)));
-          places = λ x. total_split (place_times x) s.views id v left right at (omega arith) ∙ st.places x;
+          places = λ x. total_split (place_times report x) s.views id v left right at (omega arith) ∙ st.places x;
           list = st.list;
           opens = st.opens;
           growing = st.growing;
@@ -81,8 +83,8 @@ module _ {V I O : Type 0} (report : V → Report I) (origin : V → O) (passes :
           all_passes = total_split passes_of s.views id v left right at (omega arith) ∙ st.all_passes;
           few = st.few;
           fits = λ j u there. ⊎_elim
-              (λ (old : get_elem? views j ≡ home.some u). fits_set report origin turn all s.views id left st.fits ours j u old)
-              (λ (new : right ≡ u). subst (Fits report origin turn all) new theirs)
+              (λ (old : get_elem? views j ≡ home.some u). fits_set turn all s.views id left st.fits ours j u old)
+              (λ (new : right ≡ u). subst (Fits turn all) new theirs)
               (at_snoc views right u j there);
         };
       }
@@ -97,25 +99,26 @@ module _ {V I O : Type 0} (report : V → Report I) (origin : V → O) (passes :
       let turn : ℕ = slice_index s.words 1 in
       let views : List (View V) = set s.views id both in
       let mine = st.fits id v at in
-      let theirs : Fits report origin turn all w = ⊎_elim
+      let theirs : Fits turn all w = ⊎_elim
       (λ (x : (other ≡ id) × (both ≡ w)). absurd (apart x.0))
       (λ (x : (other ≢ id) × (get_elem? s.views other ≡ home.some w)). st.fits other w x.1)
       (at_set s.views id other both w there) in
-      let ours : Fits report origin turn all both = record {
+      let ours : Fits turn all both = record {
         seen = longer_prefix v.seen w.seen all mine.seen theirs.seen;
-        also = (mine.seen, (theirs.seen, Each-append (λ (xs : List V). IsPrefix xs all) v.also w.also mine.also theirs.also));
+        also = tt;
         holds = λ e. absurd (cc e);
-        own = Each-append (IsAdded report origin all) w.own v.own theirs.own mine.own;
+        own = Each-append (IsAdded all) w.own v.own theirs.own mine.own;
         few = omega (arith, length-append w.own v.own, mine.few, theirs.few);
         turns = omega (arith, mine.turns, theirs.turns);
         waits = omega arith;
+        returned = (theirs.seen, mine.returned);
       } in
-      let nothing : Fits report origin turn all spent = record { seen = (all, refl); also = tt; holds = λ e. absurd (cc e); own = tt; few = omega arith; turns = omega arith; waits = omega arith } in
+      let nothing : Fits turn all spent = record { seen = (all, refl); also = tt; holds = λ e. absurd (cc e); own = tt; few = omega arith; turns = omega arith; waits = omega arith; returned = tt } in
       let sums = λ (f : View V → ℕ) (parts : f both + f spent ≡ f v + f w). total_join f s.views id other v w both spent at there parts in
       let no_ticket : (x : ℕ) → ticket_times x both + ticket_times x spent ≡ ticket_times x v + ticket_times x w = λ x. let a : ticket_times x v ≡ 0 = ap (times x) none in let b : ticket_times x w ≡ 0 = ap (times x) none' in omega arith in
       let no_count : ticket_count both + ticket_count spent ≡ ticket_count v + ticket_count w = let a : ticket_count v ≡ 0 = ap length none in let b : ticket_count w ≡ 0 = ap length none' in omega arith in
       let numbers : (x : ℕ) → number_times x both + number_times x spent ≡ number_times x v + number_times x w = λ x. let cut = ap (times x) (numbers_of-append w.own v.own) in omega (arith, times-append x (numbers_of w.own) (numbers_of v.own)) in
-      let places : (x : ℕ) → place_times x both + place_times x spent ≡ place_times x v + place_times x w = λ x. let cut = ap (times x) (places_of-append w.own v.own) in omega (arith, times-append x (places_of w.own) (places_of v.own)) in
+      let places : (x : ℕ) → place_times report x both + place_times report x spent ≡ place_times report x v + place_times report x w = λ x. let cut = ap (times x) (places_of-append report w.own v.own) in omega (arith, times-append x (places_of report w.own) (places_of report v.own)) in
       record {
         before = kept.before;
         last = kept.last;
@@ -126,13 +129,13 @@ module _ {V I O : Type 0} (report : V → Report I) (origin : V → O) (passes :
           taken = sums turns_of (omega arith) ∙ st.taken;
           numbers = λ x. sums (number_times x) (numbers x) ∙ st.numbers x;
           counted = st.counted ∙ ap (λ (k : ℕ). 1 + k) (sym (sums number_count (omega (arith, length-append w.own v.own))));
-          places = λ x. sums (place_times x) (places x) ∙ st.places x;
+          places = λ x. sums (place_times report x) (places x) ∙ st.places x;
           list = st.list;
           opens = st.opens;
           growing = st.growing;
           slot = slot_kept s.homes kept.last views other w spent there (sym idle') (slot_kept s.homes kept.last s.views id v both at (sym idle) st.slot);
           all_passes = sums passes_of (omega arith) ∙ st.all_passes;
           few = st.few;
-          fits = fits_set report origin turn all views other spent (fits_set report origin turn all s.views id both st.fits ours) nothing;
+          fits = fits_set turn all views other spent (fits_set turn all s.views id both st.fits ours) nothing;
         };
       }

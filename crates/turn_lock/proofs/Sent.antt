@@ -1,14 +1,20 @@
--- A pass may go to another thread where its lock's value may. The search for this meets its limits, so callers name `pass_send`.
+-- A pass may go to another thread where its lock's value may, and threads may share its lock. The search for these meets its limits, so callers name `pass_send` and `lock_sync`.
 use denote.RattleType.{RattleType}
 use denote.Struct.Declared.{shape}
-use denote.Param.Send.{IsSend, sendable, struct_send, recorded_send, view_send}
+use denote.Param.Send.{IsSend, IsSync, sendable, struct_send, recorded_send, view_send, struct_sync, recorded_sync, view_sync}
 use Rattle.std.specs.contracts.option.Option as option
+use Rattle.std.proofs.alloc.Global.TheSendSync as heap
+use Rattle.std.proofs.Crossing.{frees}
 use Rattle.atomic_table.proofs.shared.Seat.TheSendSync as seat
+use Rattle.atomic_table.proofs.shared.Shared.TheSendSync as shared
+use Rattle.atomic_table.proofs.send_lease.SendLease.TheSendSync as lease
 use Rattle.std.specs.contracts.snapshot.Snapshot as snapshot
 use Rattle.turn_lock.specs.declared.reports.Reports.{Ghosts}
 use Rattle.turn_lock.specs.contracts.rule.View as known
 use Rattle.turn_lock.specs.contracts.rule.Start as start
 use Rattle.turn_lock.specs.contracts.pass.Notes as notes
+use Rattle.turn_lock.specs.contracts.lock.TurnLock as lock
+use Rattle.turn_lock.specs.contracts.lock.TurnLock.TheInside as whole
 use Rattle.turn_lock.specs.contracts.pass.Pass as pass
 use Rattle.turn_lock.specs.contracts.pass.Pass.TheInside as inside
 
@@ -22,5 +28,10 @@ pub pass_send : (V Item Origin : RattleType) (g : Ghosts V.Denot Item.Denot Orig
 pass_send V Item Origin g s =
     let place = seat.the_send (option.the_row V) (known.the_row V) (option_send V s) in
     let start = snapshot_send (start.the_row V) in
-    let seen = snapshot_send (snapshot.the_row V) in
-    view_send _ _ _ _ _ (recorded_send (inside.the_field V Item Origin g).row _ _ (inside.the_type V Item Origin g).to_one (struct_send (shape (inside.the_type V Item Origin g)) (place, (struct_send (shape (notes.the_type V)) (start, (seen, (search sendable depth 6, tt))), tt))))
+    view_send _ _ _ _ _ (recorded_send (inside.the_field V Item Origin g).row _ _ (inside.the_type V Item Origin g).to_one (struct_send (shape (inside.the_type V Item Origin g)) (place, (struct_send (shape (notes.the_type V)) (start, (search sendable depth 6, tt)), tt))))
+
+-- A lock may be shared among threads where its value may go to another thread.
+pub lock_sync : (V Item Origin : RattleType) (g : Ghosts V.Denot Item.Denot Origin.Denot) → IsSend V → IsSync (lock.the_row V Item Origin g)
+lock_sync V Item Origin g s =
+    let slot : IsSend (option.the_row V) = option_send V s in
+    view_sync _ _ _ _ _ (recorded_sync (whole.the_field V Item Origin g).row _ _ (whole.the_type V Item Origin g).to_one (struct_sync (shape (whole.the_type V Item Origin g)) (search (sendable, shared.the_sync, lease.the_sync, heap.the_sync, heap.the_send, frees) depth 20, (search sendable depth 6, tt))))

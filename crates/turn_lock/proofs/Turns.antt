@@ -41,15 +41,15 @@ module _ {V : Type 0} where
       (cases_eq who.0 id) in
       inr (empty.0, holder)
 
-  module _ {I O : Type 0} (report : V → Report I) (origin : V → O) where
-    pub fits_set : (turn : ℕ) (all : List V) (views : List (View V)) (id : ℕ) (w : View V) → ((j : ℕ) (u : View V) → get_elem? views j ≡ home.some u → Fits report origin turn all u) → Fits report origin turn all w
-        → (j : ℕ) (u : View V) → get_elem? (set views id w) j ≡ home.some u → Fits report origin turn all u
-    fits_set turn all views id w each mine j u at =
-        ⊎_elim
-        (λ (x : (j ≡ id) × (w ≡ u)). subst (Fits report origin turn all) x.1 mine)
-        (λ (x : (j ≢ id) × (get_elem? views j ≡ home.some u)). each j u x.1)
-        (at_set views id j w u at)
+  pub fits_set : (turn : ℕ) (all : List V) (views : List (View V)) (id : ℕ) (w : View V) → ((j : ℕ) (u : View V) → get_elem? views j ≡ home.some u → Fits turn all u) → Fits turn all w
+      → (j : ℕ) (u : View V) → get_elem? (set views id w) j ≡ home.some u → Fits turn all u
+  fits_set turn all views id w each mine j u at =
+      ⊎_elim
+      (λ (x : (j ≡ id) × (w ≡ u)). subst (Fits turn all) x.1 mine)
+      (λ (x : (j ≢ id) × (get_elem? views j ≡ home.some u)). each j u x.1)
+      (at_set views id j w u at)
 
+  module _ {I O : Type 0} (report : V → Report I) (origin : V → O) where
     module _ (passes : ℕ) (opening : V) (ticket turn count : ℕ) (homes : List (home.Option (Option V))) (views : List (View V)) (before : List V) (last : V) (st : Stands report origin passes opening ticket turn count homes views before last) where
       -- no word comes near 2^64
       pub ticket_bound : ticket ≤ 2 ^ 47 * 65535

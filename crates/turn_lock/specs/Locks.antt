@@ -1,8 +1,7 @@
--- A lock, a pass and a holding as callers see them.
-use Rattle.std.specs.Prelude.{ℕ, Bool, true, false, List, [], ◌∷◌, ◌++◌, length}
+-- A lock, a pass, a holding and a closing as callers see them.
+use Rattle.std.specs.Prelude.{ℕ, Bool, true, false, List, [], ◌∷◌, ◌++◌}
 use Rattle.atomic_table.specs.Seated.{TableId}
 use Rattle.turn_lock.specs.declared.rule.Addition.{Addition}
-use Rattle.turn_lock.specs.Report.{Report}
 use Rattle.turn_lock.specs.Views.{addition, numbers_of}
 
 -- which lock it is, how many passes it has, and the value that it was made with
@@ -15,13 +14,18 @@ pub record LockView (V : Type 0) : Type 0 where
 pub record PassView (V : Type 0) : Type 0 where
   pub lock : LockView V
   pub seen : V
-  pub own : List Addition
+  pub own : List (Addition V)
   pub has_turn : Bool
 
 -- the lock that is held, and the value
 pub record HeldView (V : Type 0) : Type 0 where
   pub lock : LockView V
   pub value : V
+
+-- the lock that is closed, and the passes that came back, the last one first
+pub record ClosingView (V : Type 0) : Type 0 where
+  pub lock : LockView V
+  pub passes : List (PassView V)
 
 -- the numbers of the reports that the pass owns
 abbrev pub numbers_in : {V : Type 0} → PassView V → List ℕ
@@ -35,15 +39,18 @@ new_pass lock = record { lock = lock; seen = lock.opening; own = []; has_turn = 
 abbrev pub with_turn : {V : Type 0} → PassView V → V → PassView V
 with_turn pass found = record { lock = pass.lock; seen = found; own = pass.own; has_turn = true }
 
--- a pass whose holding ended with this value: it owns the report of that number, and the places that were added
-abbrev pub with_report : {V I : Type 0} → (V → Report I) → PassView V → ℕ → V → PassView V
-with_report report pass number value = record {
-  lock = pass.lock;
-  seen = value;
-  own = pass.own ++ addition number (length (report pass.seen).items) (length (report value).items) ∷ [];
-  has_turn = false;
-}
+-- a pass whose holding found what the pass saw last, and left this value: it owns the report of that number
+abbrev pub with_report : {V : Type 0} → PassView V → ℕ → V → PassView V
+with_report pass number value = record { lock = pass.lock; seen = value; own = pass.own ++ addition number pass.seen value ∷ []; has_turn = false }
+
+-- the same pass, which saw this value last
+abbrev pub with_seen : {V : Type 0} → PassView V → V → PassView V
+with_seen pass seen = record { lock = pass.lock; seen = seen; own = pass.own; has_turn = pass.has_turn }
 
 -- the same holding, of another value
 abbrev pub held_with : {V : Type 0} → HeldView V → V → HeldView V
 held_with held value = record { lock = held.lock; value = value }
+
+-- one pass more came back
+abbrev pub with_pass : {V : Type 0} → ClosingView V → PassView V → ClosingView V
+with_pass closing pass = record { lock = closing.lock; passes = pass ∷ closing.passes }

@@ -1,5 +1,5 @@
 -- What a list of numbers tells.
-use Rattle.std.specs.Prelude.{◌≡◌, ℕ, ◌+◌, List, [], ◌∷◌, ◌++◌, length}
+use Rattle.std.specs.Prelude.{◌≡◌, ℕ, List, [], ◌∷◌, ◌++◌, length}
 use Rattle.turn_lock.specs.declared.numbers.Numbers.{Numbers}
 use Rattle.turn_lock.specs.Report.{Report}
 use Rattle.turn_lock.specs.Views.{addition}
@@ -12,4 +12,4 @@ report_of numbers = record { items = numbers.items.items; first = numbers.tries;
 abbrev pub OwnsNumber : PassView Numbers → PassView Numbers → ℕ → ℕ → Type 0
 OwnsNumber before after place number =
     ((earlier : List ℕ) × (after.seen.items.items ≡ earlier ++ number ∷ []) × (length earlier ≡ place))
-    × ((report : ℕ) × (after.own ≡ before.own ++ addition report place (place + 1) ∷ []))
+    × ((report : ℕ) × (found : Numbers) × (after.own ≡ before.own ++ addition report found after.seen ∷ []) × (length found.items.items ≡ place))

@@ -7,14 +7,10 @@ use lib.ListN.{get_elem?}
 use Rattle.atomic_table.specs.Table.{State}
 use Rattle.seat_sums.specs.Counts.{times, once_within, total}
 use Rattle.turn_lock.specs.declared.rule.Addition.{Addition}
+use Rattle.turn_lock.specs.declared.rule.Returned.{Returned}
 use Rattle.turn_lock.specs.declared.rule.View.{View}
-use Rattle.turn_lock.specs.Report.{Report, MayFollow}
+use Rattle.turn_lock.specs.Report.{Report, Each, IsGrowing}
 use Rattle.turn_lock.specs.Views.{numbers_of, places_of}
-
--- P of each element
-abbrev pub Each : {X : Type 0} → (X → Type 0) → List X → Type 0
-Each P [] = Unit {0}
-Each P (x ∷ xs) = P x × Each P xs
 
 module _ {V : Type 0} where
   abbrev pub ticket_times : ℕ → View V → ℕ
@@ -29,8 +25,8 @@ module _ {V : Type 0} where
   abbrev pub number_count : View V → ℕ
   number_count v = length v.own
 
-  abbrev pub place_times : ℕ → View V → ℕ
-  place_times x v = times x (places_of v.own)
+  abbrev pub place_times : {I : Type 0} → (V → Report I) → ℕ → View V → ℕ
+  place_times report x v = times x (places_of report v.own)
 
   abbrev pub turns_of : View V → ℕ
   turns_of v = v.turns
@@ -48,33 +44,25 @@ module _ {V : Type 0} where
       ((homes ≡ home.some (Some last) ∷ []) × ((id : ℕ) (v : View V) → get_elem? views id ≡ home.some v → v.turn ≡ false))
       ⊎ ((homes ≡ home.none ∷ []) × ((id : ℕ) × (v : View V) × (get_elem? views id ≡ home.some v) × (v.turn ≡ true)))
 
+  -- the report of that number among all of these found the value before it, and left the value that it is
+  pub record IsAdded (all : List V) (a : Addition V) : Type 0 where
+    pub earlier : List V
+    pub later : List V
+    pub stands : earlier ++ a.found ∷ a.left ∷ later ≡ all
+    pub number : a.report ≡ length earlier + 1
+
+  pub record Fits (turn : ℕ) (all : List V) (v : View V) : Type 0 where
+    pub seen : IsPrefix v.seen all
+    pub also : Each (λ (seen : List V). IsPrefix seen all) v.also
+    -- the seat that has the turn has the ticket whose turn it is, and has seen all
+    pub holds : v.turn ≡ true → (v.tickets ≡ turn ∷ []) × (v.seen ≡ all)
+    pub own : Each (IsAdded all) v.own
+    pub few : length v.own ≤ 2 ^ 47 * v.passes
+    pub turns : v.turns ≤ 2 ^ 47 * v.passes
+    pub waits : length v.tickets ≤ v.passes
+    pub returned : Each (λ (back : Returned V). IsPrefix back.seen all) v.returned
+
   module _ {I O : Type 0} (report : V → Report I) (origin : V → O) where
-    -- each value may follow each before it
-    abbrev pub IsGrowing : List V → Type 0
-    IsGrowing [] = Unit {0}
-    IsGrowing (v ∷ vs) = Each (MayFollow report origin v) vs × IsGrowing vs
-
-    -- the report of that number among all of these added those places to the one before it
-    pub record IsAdded (all : List V) (a : Addition) : Type 0 where
-      pub earlier : List V
-      pub before : V
-      pub after : V
-      pub later : List V
-      pub stands : earlier ++ before ∷ after ∷ later ≡ all
-      pub number : a.report ≡ length earlier + 1
-      pub from : a.from ≡ length (report before).items
-      pub until : a.until ≡ length (report after).items
-
-    pub record Fits (turn : ℕ) (all : List V) (v : View V) : Type 0 where
-      pub seen : IsPrefix v.seen all
-      pub also : Each (λ (seen : List V). IsPrefix seen all) v.also
-      -- the seat that has the turn has the ticket whose turn it is, and has seen all
-      pub holds : v.turn ≡ true → (v.tickets ≡ turn ∷ []) × (v.seen ≡ all)
-      pub own : Each (IsAdded all) v.own
-      pub few : length v.own ≤ 2 ^ 47 * v.passes
-      pub turns : v.turns ≤ 2 ^ 47 * v.passes
-      pub waits : length v.tickets ≤ v.passes
-
     -- the rule over the ticket word, the turn word, the count word, the slot and the views, where the values reported are `before` and then `last`
     pub record Stands (passes : ℕ) (opening : V) (ticket turn count : ℕ) (homes : List (home.Option (Option V))) (views : List (View V)) (before : List V) (last : V) : Type 0 where
       pub tickets : OnceEach ticket_times turn ticket views
@@ -82,10 +70,10 @@ module _ {V : Type 0} where
       pub taken : total turns_of views ≡ ticket
       pub numbers : OnceEach number_times 1 count views
       pub counted : count ≡ 1 + total number_count views
-      pub places : OnceEach place_times (length (report opening).items) (length (report last).items) views
+      pub places : OnceEach (place_times report) (length (report opening).items) (length (report last).items) views
       pub list : count ≡ length before + 1
       pub opens : IsPrefix (opening ∷ []) (before ++ last ∷ [])
-      pub growing : IsGrowing (before ++ last ∷ [])
+      pub growing : IsGrowing report origin (before ++ last ∷ [])
       pub slot : IsSlot homes last views
       pub all_passes : total passes_of views ≡ passes
       pub few : passes ≤ 65535

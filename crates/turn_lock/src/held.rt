@@ -8,7 +8,6 @@ use crate::pass::Pass;
 use crate::reports::Reports;
 use crate::steps::end_turn;
 use std::marker::Model;
-use std::snapshot::Snapshot;
 
 /// The value of a lock whose turn a pass has. It can't be dropped: `give` ends it.
 pub struct Held<'a, V: Reports> {
@@ -26,23 +25,15 @@ impl<'a, V: Reports> Model for Held<'a, V> {
 
 impl<'a, V: Reports> Held<'a, V> {
     /// Gives the value back, and ends the turn of the pass that took it. The value may have grown, and has its old origin.
+    /// The pass then owns one report more, with the value that the holding found and the one that it left.
     pub fn give(self, pass: &mut Pass<V>)
         requires lock { pass.old.lock ≡ self.lock }
         requires took { pass.old.has_turn ≡ true }
         requires grown { GrowsTo (V.report pass.old.seen) (V.report self.value) }
         requires origin { V.origin self.value ≡ V.origin self.lock.opening }
-        ensures { (number : ℕ) × (pass.new ≡ with_report V.report pass.old number self.entry.value) × (1 ≤ number) × All (λ n. n < number) (numbers_in pass.old) }
+        ensures { (number : ℕ) × (pass.new ≡ with_report pass.old number self.entry.value) × (1 ≤ number) × All (λ n. n < number) (numbers_in pass.old) }
     {
         let Held { lock, value } = self;
-        let now = Snapshot::of(&Snapshot::of(&value));
-        end_turn(
-            &lock.table.shared,
-            &mut pass.place,
-            &pass.notes.seen,
-            &now,
-            value,
-            lock.passes,
-        );
-        pass.notes.seen = now;
+        end_turn(&lock.table.shared, &mut pass.place, value, lock.passes);
     }
 }

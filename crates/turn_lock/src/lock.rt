@@ -1,21 +1,21 @@
 //! The lock.
-ghost use Rattle.std.specs.Prelude.{◌≡◌, ℕ, ◌≤◌, false, All, IfOk, IfErr, length, replicate};
+ghost use Rattle.std.specs.Prelude.{◌≡◌, ℕ, ◌≤◌, false, true, [], All, IfOk, IfErr, length, replicate};
+ghost use mathlib.Core.Logic.{◌⊎◌};
 ghost use Rattle.turn_lock.specs.Report.{GrowsTo};
 ghost use Rattle.seat_sums.specs.Counts.{times, once_within};
-ghost use Rattle.turn_lock.specs.Locks.{new_pass, with_turn};
+ghost use Rattle.turn_lock.specs.Locks.{new_pass, with_turn, with_seen};
 ghost use Rattle.turn_lock.specs.Ends.{IsReported, places_over};
 
-use crate::ends::finish_board;
+use crate::closing::{Closing, new_place};
 use crate::faults::NoMemory;
 use crate::held::Held;
 use crate::makes::make_board;
 use crate::pass::Pass;
 use crate::reports::Reports;
 use crate::rule::{ByTurns, Start, View};
-use crate::steps::{take_turn, wait_for_turns};
+use crate::steps::{share_seen, take_turn, wait_for_turns};
 use std::alloc::Global;
 use std::marker::Model;
-use std::snapshot::Snapshot;
 use std::sync::Wait;
 
 pub(crate) type Table<V> = atomic_table::Table<Option<V>, View<V>, Start<V>, ByTurns, Global>;
@@ -33,9 +33,9 @@ impl<V: Reports> Model for TurnLock<V> {
 
     ghost Value = { LockView V };
 
-    ghost use Rattle.turn_lock.specs.Seated.{IsLaid};
+    ghost use Rattle.turn_lock.specs.Seated.{IsLaid, lock_of};
 
-    ghost view = { λ t. record { id = t.table.shared.table_id; passes = t.table.shared.key.passes; opening = t.table.shared.key.opening.value } };
+    ghost view = { λ t. lock_of t.table.shared.table_id t.table.shared.key };
 
     ghost invariant = { λ t. (t.passes ≡ t.table.shared.key.passes) × (1 ≤ t.passes) × IsLaid t.table.shared.table_id t.passes };
 }
@@ -68,12 +68,39 @@ impl<V: Reports> TurnLock<V> {
         wait_for_turns(rt, pass.notes.turns);
         let value = take_turn(rt, &self.table.shared, &mut pass.place, self.passes);
         pass.notes.turns += 1;
-        pass.notes.seen = Snapshot::of(&Snapshot::of(&value));
         Held { lock: self, value }
     }
 
+    /// Tells each of two passes what the other has seen: both then have seen the later value last. Nothing else changes, and
+    /// neither does what a pass has seen that has the turn.
+    pub fn share(&self, one: &mut Pass<V>, other: &mut Pass<V>)
+        requires lock { (one.old.lock ≡ self.now) × (other.old.lock ≡ self.now) }
+        requires ended { other.old.has_turn ≡ false }
+        ensures one { one.new ≡ with_seen one.old one.new.seen }
+        ensures other { other.new ≡ with_seen other.old one.new.seen }
+        ensures later { (one.new.seen ≡ one.old.seen) ⊎ (one.new.seen ≡ other.old.seen) }
+        ensures turn { one.old.has_turn ≡ true → one.new.seen ≡ one.old.seen }
+        ensures grown { GrowsTo (V.report one.old.seen) (V.report one.new.seen) × GrowsTo (V.report other.old.seen) (V.report one.new.seen) }
+    {
+        share_seen(&self.table.shared, &mut one.place, &mut other.place);
+    }
+
+    /// Begins the end of the lock, which then takes its passes back one by one.
+    pub fn close(self) -> Closing<V>
+        ensures lock { result.lock ≡ self }
+        ensures passes { result.passes ≡ [] }
+    {
+        let TurnLock { table, passes } = self;
+        let place = new_place(&table.shared);
+        Closing {
+            table,
+            place,
+            passes,
+        }
+    }
+
     /// Ends the lock, and gives the value as the last holding left it.
-    pub fn finish(self, passes: Vec<Pass<V>>) -> V
+    pub fn finish(self, mut passes: Vec<Pass<V>>) -> V
         requires lock { All (λ pass. pass.lock ≡ self) passes.items }
         requires ended { All (λ pass. pass.has_turn ≡ false) passes.items }
         requires all { length passes.items ≡ self.passes }
@@ -81,9 +108,13 @@ impl<V: Reports> TurnLock<V> {
         ensures origin { V.origin result ≡ V.origin self.opening }
         ensures seen { All (λ pass. GrowsTo (V.report pass.seen) (V.report result)) passes.items }
         ensures reports { IsReported V.report V.origin self.opening result passes.items }
-        ensures places { (place : ℕ) → times place (places_over passes.items) ≡ once_within (length (V.report self.opening).items) (length (V.report result).items) place }
+        ensures places { (place : ℕ) → times place (places_over V.report passes.items) ≡ once_within (length (V.report self.opening).items) (length (V.report result).items) place }
     {
-        let TurnLock { table, passes: _ } = self;
-        finish_board(table, passes)
+        let mut closing = self.close();
+        while let Some(pass) = passes.pop() {
+            let next = closing.take_back(pass);
+            closing = next;
+        }
+        closing.finish()
     }
 }

@@ -53,7 +53,6 @@ fn pass_of<V: Reports>(place: Place<V>, start: &Start<V>) -> Pass<V>
         place,
         notes: Notes {
             start: Snapshot::of(start),
-            seen: Snapshot::of(&start.opening),
             turns: 0,
         },
     }

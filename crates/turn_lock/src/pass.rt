@@ -4,16 +4,12 @@ use crate::rule::{Start, View};
 use std::marker::Model;
 use std::snapshot::Snapshot;
 
-/// A value as a pass saw it.
-pub(crate) type Seen<V> = Snapshot<Snapshot<V>>;
-
 pub(crate) type Place<V> = atomic_table::Seat<Option<V>, View<V>>;
 
-/// What a pass keeps beside its seat: its lock's start, the value that it saw last, and how many turns it took.
+/// What a pass keeps beside its seat: its lock's start, and how many turns it took.
 #[derive(Drop)]
 pub(crate) struct Notes<V> {
     pub(crate) start: Snapshot<Start<V>>,
-    pub(crate) seen: Seen<V>,
     pub(crate) turns: u64,
 }
 
@@ -29,9 +25,9 @@ impl<V: Reports> Model for Pass<V> {
 
     ghost Value = { PassView V };
 
-    ghost use Rattle.turn_lock.specs.Seated.{IsSeated};
+    ghost use Rattle.turn_lock.specs.Seated.{pass_of, IsSeated};
 
-    ghost view = { λ p. record { lock = record { id = p.place.table_id; passes = p.notes.start.value.passes; opening = p.notes.start.value.opening.value }; seen = p.notes.seen.value.value; own = p.place.me.0.own; has_turn = p.place.me.0.turn } };
+    ghost view = { λ p. pass_of p.place.table_id p.notes.start.value p.place.me.0 };
 
-    ghost invariant = { λ p. IsSeated V.origin p.notes.start.value.opening.value p.notes.seen.value.value p.notes.turns p.place.me };
+    ghost invariant = { λ p. IsSeated V.origin p.notes.start.value p.notes.turns p.place.me };
 }

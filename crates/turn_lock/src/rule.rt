@@ -4,24 +4,31 @@ use atomic_table::{Join, Play, Split, TableRule};
 use std::collections::LinkedList;
 use std::snapshot::Snapshot;
 
-/// The report that one holding made, by its number, and the places that it added to the list, the last of them left out.
-/// No value of it is made.
-pub struct Addition {
+/// What one holding did: the number of its report, the value that it found, and the value that it left. No value of it is made.
+pub struct Addition<V> {
     pub report: u64,
-    pub from: u64,
-    pub until: u64,
+    pub found: V,
+    pub left: V,
 }
 
-/// What a seat knows: the values that it has seen and those that seats that it took in had seen, what it owns, its ticket,
-/// whether it has the turn, how many turns it asked for, and how many passes it stands for. No value of it is made.
+/// What the seat of a pass knew when the pass was handed in: the values that it had seen, and what it owned.
+/// No value of it is made.
+pub struct Returned<V> {
+    pub seen: LinkedList<V>,
+    pub own: LinkedList<Addition<V>>,
+}
+
+/// What a seat knows: the values that it has seen, the lists that it compared last, what it owns, its ticket, whether it has the
+/// turn, how many turns it asked for, how many passes it stands for, and the passes that were handed in. No value of it is made.
 pub struct View<V> {
     pub seen: LinkedList<V>,
     pub also: LinkedList<LinkedList<V>>,
-    pub own: LinkedList<Addition>,
+    pub own: LinkedList<Addition<V>>,
     pub tickets: LinkedList<u64>,
     pub turn: bool,
     pub turns: u64,
     pub passes: u32,
+    pub returned: LinkedList<Returned<V>>,
 }
 
 /// What a lock is made with.
@@ -88,6 +95,24 @@ impl<V> Play<Option<V>, View<V>> for Nudge {
     ghost then = { Stays };
 }
 
+/// A look at nothing, by which a seat recalls that all lists that it knows of are beginnings of one.
+pub struct Recall;
+
+impl<V: Reports> Play<Option<V>, View<V>> for Recall {
+    ghost use Rattle.turn_lock.specs.Views.{Recalls};
+
+    ghost then = { Recalls V.report V.origin };
+}
+
+/// A seat that stands for no pass.
+pub struct Come;
+
+impl<V> Play<Option<V>, View<V>> for Come {
+    ghost use Rattle.turn_lock.specs.Views.{Comes};
+
+    ghost then = { Comes };
+}
+
 /// One pass more.
 pub struct Apart;
 
@@ -99,7 +124,29 @@ impl<V> Split<View<V>> for Apart {
     ghost right = { one_pass };
 }
 
-/// One seat for two.
+/// A seat that knows what the first one has seen.
+pub struct Tell;
+
+impl<V> Split<View<V>> for Tell {
+    ghost use Rattle.turn_lock.specs.Views.{listens};
+
+    ghost left = { λ v. v };
+
+    ghost right = { listens };
+}
+
+/// A seat that was told of what another had seen.
+pub struct Hear;
+
+impl<V> Join<View<V>> for Hear {
+    ghost use Rattle.turn_lock.specs.Views.{heard, spent_view};
+
+    ghost both = { heard };
+
+    ghost spent = { spent_view };
+}
+
+/// A pass that is handed in.
 pub struct Together;
 
 impl<V> Join<View<V>> for Together {

@@ -1,13 +1,14 @@
 //! What a pass does at the words of its lock.
 ghost use Rattle.std.specs.Prelude.{◌≡◌, ℕ, ◌+◌, ◌*◌, ◌^◌, ◌<◌, ◌≤◌, true, false, [], ◌∷◌, ◌++◌, List, Some, None, MatchBool, length, IsTrue};
 ghost use Rattle.turn_lock.specs.Report.{MayFollow};
-ghost use Rattle.turn_lock.specs.Views.{Took, with_ticket, without_ticket};
-ghost use Rattle.turn_lock.specs.Seated.{IsLaid, TookTurn, Reports, EndedTurn, IsLast};
+ghost use Rattle.turn_lock.specs.Views.{Took, IsOne, heard, with_ticket, without_ticket};
+ghost use Rattle.turn_lock.specs.Seated.{IsLaid, TookTurn, Reports, EndedTurn, IsLast, last_seen};
 
-use crate::pass::{Place, Seen};
+use crate::pass::Place;
 use crate::reports::Reports;
-use crate::rule::{Advance, ByTurns, Draw, Leave, Look, Nudge, Start, View};
+use crate::rule::{Advance, ByTurns, Draw, Hear, Leave, Look, Nudge, Recall, Start, Tell, View};
 use atomic_table::Shared;
+use std::snapshot::Snapshot;
 use std::sync::Wait;
 use std::{hint, thread};
 
@@ -181,28 +182,28 @@ fn move_back<V: Reports>(board: &Board<V>, place: &mut Place<V>, value: V)
     };
 }
 
-/// Reports the value that is back, and which may follow the one that was found.
-fn advance<V: Reports>(board: &Board<V>, place: &mut Place<V>, found: &Seen<V>, value: &Seen<V>)
+/// Reports the value that is back, and which may follow the one that the seat saw last.
+fn advance<V: Reports>(board: &Board<V>, place: &mut Place<V>, value: &Snapshot<V>)
     requires table { place.old.table_id ≡ board.now.table_id }
     requires board { IsLaid board.now.table_id board.now.key.passes }
     requires turn { place.old.me.0.turn ≡ true }
-    requires found { IsLast place.old.me.0.seen found.now.value.value }
-    requires back { place.old.me.1 ≡ (0, Some value.now.value.value) ∷ [] }
-    requires follows { MayFollow V.report V.origin found.now.value.value value.now.value.value }
+    requires found { IsLast place.old.me.0.seen (last_seen board.now.key place.old.me.0) }
+    requires back { place.old.me.1 ≡ (0, Some value.now.value) ∷ [] }
+    requires follows { MayFollow V.report V.origin (last_seen board.now.key place.old.me.0) value.now.value }
     requires room { length place.old.me.0.own < 2 ^ 47 * place.old.me.0.passes }
     ensures table { place.new.table_id ≡ place.old.table_id }
-    ensures reported { Reports V.report found.now.value.value value.now.value.value place.old.me place.new.me }
+    ensures reported { Reports (last_seen board.now.key place.old.me.0) value.now.value place.old.me place.new.me }
 {
     board.fetch_add::<Advance>(place, COUNT, 1);
 }
 
 /// Ends the turn, and gives its ticket.
-fn leave<V: Reports>(board: &Board<V>, place: &mut Place<V>, value: &Seen<V>) -> u64
+fn leave<V: Reports>(board: &Board<V>, place: &mut Place<V>, value: &Snapshot<V>) -> u64
     requires table { place.old.table_id ≡ board.now.table_id }
     requires board { IsLaid board.now.table_id board.now.key.passes }
     requires turn { place.old.me.0.turn ≡ true }
-    requires last { IsLast place.old.me.0.seen value.now.value.value }
-    requires back { place.old.me.1 ≡ (0, Some value.now.value.value) ∷ [] }
+    requires last { IsLast place.old.me.0.seen value.now.value }
+    requires back { place.old.me.1 ≡ (0, Some value.now.value) ∷ [] }
     ensures table { place.new.table_id ≡ place.old.table_id }
     ensures me { place.new.me ≡ (without_ticket place.old.me.0, []) }
 {
@@ -225,28 +226,55 @@ fn hand_on<V: Reports>(board: &Board<V>, place: &mut Place<V>, next: u64, passes
 }
 
 /// Gives the value back, reports it, and ends the turn.
-pub(crate) fn end_turn<V: Reports>(
-    board: &Board<V>,
-    place: &mut Place<V>,
-    found: &Seen<V>,
-    now: &Seen<V>,
-    value: V,
-    passes: u32,
-)
+pub(crate) fn end_turn<V: Reports>(board: &Board<V>, place: &mut Place<V>, value: V, passes: u32)
     requires table { place.old.table_id ≡ board.now.table_id }
     requires board { IsLaid board.now.table_id board.now.key.passes }
     requires passes { (1 ≤ passes) × (passes ≡ board.now.key.passes) }
     requires turn { place.old.me.0.turn ≡ true }
-    requires found { IsLast place.old.me.0.seen found.now.value.value }
+    requires found { IsLast place.old.me.0.seen (last_seen board.now.key place.old.me.0) }
     requires out { place.old.me.1 ≡ (0, None) ∷ [] }
-    requires value { now.now.value.value ≡ value }
-    requires follows { MayFollow V.report V.origin found.now.value.value value }
+    requires follows { MayFollow V.report V.origin (last_seen board.now.key place.old.me.0) value }
     requires room { length place.old.me.0.own < 2 ^ 47 * place.old.me.0.passes }
     ensures table { place.new.table_id ≡ place.old.table_id }
-    ensures ended { EndedTurn V.report found.now.value.value value place.old.me place.new.me }
+    ensures ended { EndedTurn (last_seen board.now.key place.old.me.0) value place.old.me place.new.me }
 {
+    let now = Snapshot::of(&value);
     move_back(board, place, value);
-    advance(board, place, found, now);
-    let turn = leave(board, place, now);
+    advance(board, place, &now);
+    let turn = leave(board, place, &now);
     hand_on(board, place, turn.wrapping_add(1), passes);
+}
+
+/// Tells the seat `to` what the seat `from` has seen.
+fn tell<V: Reports>(board: &Board<V>, from: &mut Place<V>, to: &mut Place<V>)
+    requires tables { (from.old.table_id ≡ board.now.table_id) × (to.old.table_id ≡ board.now.table_id) }
+    requires board { IsLaid board.now.table_id board.now.key.passes }
+    ensures from { (from.new.table_id ≡ from.old.table_id) × (from.new.me ≡ from.old.me) }
+    ensures to { (to.new.table_id ≡ to.old.table_id) × (to.new.me ≡ (heard to.old.me.0 from.old.me.0, to.old.me.1)) }
+{
+    let told = board.split_seat::<Tell>(from);
+    board.join_seat::<Hear>(to, told);
+}
+
+/// Recalls that the lists that the seat compared last are beginnings of one.
+fn recall<V: Reports>(board: &Board<V>, place: &mut Place<V>)
+    requires table { place.old.table_id ≡ board.now.table_id }
+    requires board { IsLaid board.now.table_id board.now.key.passes }
+    ensures place { (place.new.table_id ≡ place.old.table_id) × (place.new.me ≡ place.old.me) }
+    ensures known { IsOne V.report V.origin place.old.me.0 }
+{
+    board.load::<Recall>(place, COUNT);
+}
+
+/// Tells each of two seats what the other has seen.
+pub(crate) fn share_seen<V: Reports>(board: &Board<V>, one: &mut Place<V>, other: &mut Place<V>)
+    requires tables { (one.old.table_id ≡ board.now.table_id) × (other.old.table_id ≡ board.now.table_id) }
+    requires board { IsLaid board.now.table_id board.now.key.passes }
+    ensures one { (one.new.table_id ≡ one.old.table_id) × (one.new.me ≡ (heard one.old.me.0 other.old.me.0, one.old.me.1)) }
+    ensures other { (other.new.table_id ≡ other.old.table_id) × (other.new.me ≡ (heard other.old.me.0 one.new.me.0, other.old.me.1)) }
+    ensures known { IsOne V.report V.origin one.new.me.0 }
+{
+    tell(board, other, one);
+    recall(board, one);
+    tell(board, one, other);
 }

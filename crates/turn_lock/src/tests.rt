@@ -3,6 +3,10 @@ ghost use Rattle.turn_lock.specs.Report.{GrowsTo};
 ghost use Rattle.turn_lock.specs.Numbers.{report_of};
 ghost use Rattle.turn_lock.specs.Locks.{new_pass};
 
+mod any_value;
+mod two_locks;
+mod wakes;
+
 use crate::{NoMemory, Numbers, Pass, TurnLock, add, end};
 use std::alloc::Global;
 use std::sync::Wait;

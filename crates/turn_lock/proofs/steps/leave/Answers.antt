@@ -7,5 +7,5 @@ fetch_add-requires g c =
     let t = c.args.board.now in (
       c.requires.table,
       omega (arith, c.requires.board.0),
-      leaves g.V.Reports.report g.V.Reports.origin t.key.passes t.key.opening.value t.table_id.slots c.args.place.now.id c.args.place.now.me c.args.value.now.value.value c.requires.turn c.requires.last c.requires.back,
+      leaves g.V.Reports.report g.V.Reports.origin t.key.passes t.key.opening.value t.table_id.slots c.args.place.now.id c.args.place.now.me c.args.value.now.value c.requires.turn c.requires.last c.requires.back,
     )
