@@ -303,7 +303,7 @@ not_after before after x e has = elim (Contains-append_cases before (x ∷ after
 ]
 
 -- the last decision of a context isn't earlier than another
-not_later : (h : List Entry) (c n made time : ℕ) (e last : Entry) → IsLegal h → IsLastDecision h c last → Contains h e
+pub not_later : (h : List Entry) (c n made time : ℕ) (e last : Entry) → IsLegal h → IsLastDecision h c last → Contains h e
     → IsDecision c n e → time_of e ≡ Some made → time_of last ≡ Some time → made ≤ time
 not_later h c n made time e last legal is has decides made_is time_is =
     elim (not_after is.before is.after last e (subst (λ l. Contains l e) is.place has)) [

@@ -1,7 +1,8 @@
 -- The short histories, each at its number and beside it.
-use Rattle.std.proofs.Common.{◌≡◌, ◌⊎◌, inl, inr, ℕ, zero, suc, ◌+◌, ◌-◌, ◌^◌, ◌<◌, ◌≤◌, List, [], ◌∷◌, ◌++◌, Any, Contains, refl, sym, ap, subst, arith}
+use Rattle.std.proofs.Common.{◌≡◌, ◌⊎◌, inl, inr, ℕ, zero, suc, ◌+◌, ◌-◌, ◌^◌, ◌<◌, ◌≤◌, List, [], ◌∷◌, ◌++◌, length, Any, Contains, refl, sym, ap, subst, arith}
+use Rattle.std.specs.Prelude.{replicate}
 use Rattle.std.proofs.lemmas.Option.{same_Some}
-use Rattle.std.proofs.lemmas.List.Elements.{All-nil, All-cons}
+use Rattle.std.proofs.lemmas.List.Elements.{All-nil, All-cons, All-head, All-replicate}
 use Rattle.edge_traits.specs.declared.names.PledgeId.{PledgeId}
 use Rattle.journal_text.specs.declared.settings.Settings.{Settings}
 use Rattle.journal_text.specs.declared.entry.Entry.{Entry}
@@ -13,7 +14,7 @@ use Rattle.join_history.specs.Leases.{lease_end, IsGrantTo, IsReleaseOf, IsInEff
 use Rattle.join_history.specs.Epochs.{IsRollOf, IsGivenTo, IsStaleOf, Has, IsStaleFor}
 use Rattle.join_history.specs.Legal.{IsInRange, IsTimely, HasAged}
 use Rattle.join_history.specs.Due.{IsRepeat}
-use Rattle.join_history.specs.Examples.{a1, pool, set_of, enrolled, granted, spreading, Hours, LeaseLives, AddressIsHeld, Repeats, Window, Contexts, Pools, Below, Blocks, Releases, Rolls, Switches, AnswerBytes, Updates, given, Answered, SummaryGrants}
+use Rattle.join_history.specs.Examples.{a1, pool, zeros, single, enrolled, granted, spreading, Hours, LeaseLives, AddressIsHeld, Repeats, Window, Contexts, Pools, Widths, Below, Blocks, Releases, Rolls, Switches, AnswerBytes, Updates, given, Answered, SummaryGrants}
 use Rattle.cbor_cojp.specs.Spelling.{number, string, array, map}
 use Rattle.join_history.specs.Answers.{grant_answer}
 use Rattle.join_history.specs.Updates.{update_message}
@@ -128,7 +129,16 @@ contexts = record {
 }
 
 in_range : (first count time : ℕ) → 1 ≤ first → 1 ≤ count → first + count ≤ 65534 → time ≤ 65535 → IsInRange (pool first count time)
-in_range first count time a b c d = record { first = a; count = b; last = c; hours = d }
+in_range first count time a b c d = record {
+  first = a;
+  count = b;
+  last = c;
+  hours = d;
+  rate_fits = tt;
+  jrc_of_16 = tt;
+  few_ids = omega arith;
+  ids_of_8 = All-nil (λ (p : PledgeId). length p.0 ≡ 8);
+}
 
 pub pools : Pools
 pools = record {
@@ -145,6 +155,27 @@ pools = record {
       let first : address.0.first ≡ 1 = ap (λ (s : Settings). s.first) (sym same) in
       let count : address.0.count ≡ 2 = ap (λ (s : Settings). s.count) (sym same) in
       omega (arith, first, count, address.3);
+}
+
+pub widths : Widths
+widths = record {
+  widest = record {
+    first = omega arith;
+    count = omega arith;
+    last = omega arith;
+    hours = omega arith;
+    rate_fits = omega arith;
+    jrc_of_16 = refl;
+    few_ids = omega arith;
+    ids_of_8 = All-replicate (λ (p : PledgeId). length p.0 ≡ 8) 16 a1 refl;
+  };
+  rate_past = λ range. omega (arith, range.rate_fits);
+  short_address = λ range. omega (arith, range.jrc_of_16);
+  long_address = λ range. omega (arith, range.jrc_of_16);
+  many_refused = λ range. omega (arith, range.few_ids);
+  long_identifier = λ range.
+      let id : PledgeId = record { 0 = replicate 9 0 } in
+      omega (arith, All-head (λ (p : PledgeId). length p.0 ≡ 8) id [] range.ids_of_8);
 }
 
 timely : (hours time : ℕ) → time < 2 ^ 40 → IsTimely (enrolled hours) time
@@ -225,10 +256,18 @@ pub rolls : Rolls
 rolls = record {
   four_keys = (
     record { not_before = omega arith; fits = omega arith },
-    record { epoch = refl; epoch_fits = omega arith; some_keys = omega arith; few_keys = omega arith },
+    record {
+      epoch = refl;
+      epoch_fits = omega arith;
+      some_keys = omega arith;
+      few_keys = omega arith;
+      keys_of_16 = All-replicate (λ (key : List ℕ). length key ≡ 16) 4 zeros refl;
+    },
   );
   five_keys = λ may. omega (arith, may.1.few_keys);
   no_key = λ may. omega (arith, may.1.some_keys);
+  short_key = λ may. omega (arith, All-head (λ (key : List ℕ). length key ≡ 16) (replicate 15 0) [] may.1.keys_of_16);
+  long_key = λ may. omega (arith, All-head (λ (key : List ℕ). length key ≡ 16) (replicate 17 0) [] may.1.keys_of_16);
   epoch_zero = λ may. omega (arith, may.1.epoch);
   epoch_two = λ may. omega (arith, may.1.epoch);
 }
@@ -251,11 +290,11 @@ no_place P (x ∷ xs) (y ∷ before) after w none is holds =
 
 -- what holds of no place of the history
 none_at : (P : Entry → List Entry → Type 0)
-    → (P (SettingsEntry 0 (pool 1 2 1)) (Enroll 0 a1 [] ∷ Grant 0 0 0 1 3600 ∷ Block 0 64 ∷ Roll 1 (set_of 1 ([] ∷ [])) ∷ Roll 2 (set_of 2 ([] ∷ [])) ∷ []) → ⊥)
-    → (P (Enroll 0 a1 []) (Grant 0 0 0 1 3600 ∷ Block 0 64 ∷ Roll 1 (set_of 1 ([] ∷ [])) ∷ Roll 2 (set_of 2 ([] ∷ [])) ∷ []) → ⊥)
-    → (P (Grant 0 0 0 1 3600) (Block 0 64 ∷ Roll 1 (set_of 1 ([] ∷ [])) ∷ Roll 2 (set_of 2 ([] ∷ [])) ∷ []) → ⊥)
-    → (P (Block 0 64) (Roll 1 (set_of 1 ([] ∷ [])) ∷ Roll 2 (set_of 2 ([] ∷ [])) ∷ []) → ⊥)
-    → (P (Roll 1 (set_of 1 ([] ∷ []))) (Roll 2 (set_of 2 ([] ∷ [])) ∷ []) → ⊥) → (P (Roll 2 (set_of 2 ([] ∷ []))) [] → ⊥)
+    → (P (SettingsEntry 0 (pool 1 2 1)) (Enroll 0 a1 [] ∷ Grant 0 0 0 1 3600 ∷ Block 0 64 ∷ Roll 1 (single 1) ∷ Roll 2 (single 2) ∷ []) → ⊥)
+    → (P (Enroll 0 a1 []) (Grant 0 0 0 1 3600 ∷ Block 0 64 ∷ Roll 1 (single 1) ∷ Roll 2 (single 2) ∷ []) → ⊥)
+    → (P (Grant 0 0 0 1 3600) (Block 0 64 ∷ Roll 1 (single 1) ∷ Roll 2 (single 2) ∷ []) → ⊥)
+    → (P (Block 0 64) (Roll 1 (single 1) ∷ Roll 2 (single 2) ∷ []) → ⊥)
+    → (P (Roll 1 (single 1)) (Roll 2 (single 2) ∷ []) → ⊥) → (P (Roll 2 (single 2)) [] → ⊥)
     → (before after : List Entry) (e : Entry) → spreading ≡ before ++ e ∷ after → P e after → ⊥
 unfolding Nowhere
 none_at P a b c d e f before after x is holds = no_place P spreading before after x (a, (b, (c, (d, (e, (f, tt)))))) is holds
@@ -290,12 +329,12 @@ no_lease (inr none) = none
 spreading_lease : IsLast (IsLeaseOf spreading a1) spreading (Grant 0 0 0 1 3600)
 spreading_lease = record {
   before = enrolled 1;
-  after = Block 0 64 ∷ Roll 1 (set_of 1 ([] ∷ [])) ∷ Roll 2 (set_of 2 ([] ∷ [])) ∷ [];
+  after = Block 0 64 ∷ Roll 1 (single 1) ∷ Roll 2 (single 2) ∷ [];
   place = refl;
   holds = inl refl;
-  none_after = All-cons (λ e. IsLeaseOf spreading a1 e → ⊥) (Block 0 64) (Roll 1 (set_of 1 ([] ∷ [])) ∷ Roll 2 (set_of 2 ([] ∷ [])) ∷ []) no_lease
-      (All-cons (λ e. IsLeaseOf spreading a1 e → ⊥) (Roll 1 (set_of 1 ([] ∷ []))) (Roll 2 (set_of 2 ([] ∷ [])) ∷ []) no_lease
-      (All-cons (λ e. IsLeaseOf spreading a1 e → ⊥) (Roll 2 (set_of 2 ([] ∷ []))) [] no_lease (All-nil (λ e. IsLeaseOf spreading a1 e → ⊥))));
+  none_after = All-cons (λ e. IsLeaseOf spreading a1 e → ⊥) (Block 0 64) (Roll 1 (single 1) ∷ Roll 2 (single 2) ∷ []) no_lease
+      (All-cons (λ e. IsLeaseOf spreading a1 e → ⊥) (Roll 1 (single 1)) (Roll 2 (single 2) ∷ []) no_lease
+      (All-cons (λ e. IsLeaseOf spreading a1 e → ⊥) (Roll 2 (single 2)) [] no_lease (All-nil (λ e. IsLeaseOf spreading a1 e → ⊥))));
 }
 
 live_then : IsLive spreading 3599 a1 1
@@ -361,7 +400,7 @@ updates = record {
 }
 
 -- no Grant is among the last two entries
-no_grant_after : Any (IsGrantTo given a1) (Roll 2 (set_of 2 ([] ∷ [])) ∷ Given 3 0 63 2 ∷ []) → ⊥
+no_grant_after : Any (IsGrantTo given a1) (Roll 2 (single 2) ∷ Given 3 0 63 2 ∷ []) → ⊥
 no_grant_after (zero, e, small, is, granted) = subst (IsGrantTo given a1) (sym is) granted
 no_grant_after (suc zero, e, small, is, granted) = subst (IsGrantTo given a1) (sym is) granted
 no_grant_after (suc (suc k), e, small, is, granted) = omega (arith, small)
@@ -392,12 +431,12 @@ answered = record {
 }
 
 -- a1's Grant with a Roll after it
-rolled_effect : (time : ℕ) → IsInEffect (granted 1 0 ++ Roll time (set_of 1 ([] ∷ [])) ∷ []) a1 (Grant 0 0 0 1 3600)
+rolled_effect : (time : ℕ) → IsInEffect (granted 1 0 ++ Roll time (single 1) ∷ []) a1 (Grant 0 0 0 1 3600)
 rolled_effect time = record {
   before = enrolled 1;
-  after = Roll time (set_of 1 ([] ∷ [])) ∷ [];
+  after = Roll time (single 1) ∷ [];
   place = refl;
-  none_since = All-cons (λ x. IsReleaseOf a1 x → ⊥) (Roll time (set_of 1 ([] ∷ []))) [] (λ r. r) (All-nil (λ x. IsReleaseOf a1 x → ⊥));
+  none_since = All-cons (λ x. IsReleaseOf a1 x → ⊥) (Roll time (single 1)) [] (λ r. r) (All-nil (λ x. IsReleaseOf a1 x → ⊥));
 }
 
 pub summary_grants : SummaryGrants

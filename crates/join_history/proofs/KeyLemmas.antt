@@ -3,7 +3,7 @@ use Rattle.std.proofs.Common.{◌≡◌, ◌≢◌, ℕ, ◌+◌, ◌*◌, ◌^�
 use Rattle.std.specs.Prelude.{⊤}
 use Rattle.std.proofs.lemmas.Bool.Decides.{Decides-eqb}
 use Rattle.std.proofs.lemmas.List.Sums.{fold_push}
-use Rattle.std.proofs.lemmas.List.Elements.{All-nil, All-cons, All-append}
+use Rattle.std.proofs.lemmas.List.Elements.{All-nil, All-cons, All-head, All-tail, All-append}
 use Rattle.key_sets.specs.declared.set.KeySet.{KeySet}
 use Rattle.key_sets.specs.declared.phase.Phase.{Phase}
 use Rattle.key_sets.specs.declared.phase.Phase.TheVariants.{None, Steady, Spreading}
@@ -92,15 +92,23 @@ epochs_rise h time set legal =
     let next = next_epoch (phase h) set may.1.epoch in
     (next.0, ap epoch_of (phase-push h (Roll time set)) ∙ next.1)
 
--- what the sets of a phase have: at most 4 keys, and epochs one after another
+-- at most 4 keys, of 16 bytes
+pub record FitsSet (set : KeySet) : Type 0 where
+  pub few_keys : length set.keys.items ≤ 4
+  pub keys_of_16 : All (λ key. length key ≡ 16) set.keys.items
+
+-- what the sets of a phase have: at most 4 keys, of 16 bytes, and epochs one after another
 abbrev pub FitsPhase : Phase → Type 0
 FitsPhase None = ⊤
-FitsPhase (Steady set) = length set.keys.items ≤ 4
-FitsPhase (Spreading old new) = (length old.keys.items ≤ 4) × (length new.keys.items ≤ 4) × (new.epoch ≡ old.epoch + 1)
+FitsPhase (Steady set) = FitsSet set
+FitsPhase (Spreading old new) = FitsSet old × FitsSet new × (new.epoch ≡ old.epoch + 1)
+
+fits_next : (before : Phase) (set : KeySet) → IsNextSet before set → FitsSet set
+fits_next before set next = record { few_keys = next.few_keys; keys_of_16 = next.keys_of_16 }
 
 fits_rolled : (before : Phase) (set : KeySet) → FitsPhase before → IsNextSet before set → FitsPhase (rolled before set)
-fits_rolled None set fits next = next.few_keys
-fits_rolled (Steady old) set fits next = (fits, next.few_keys, next.epoch)
+fits_rolled None set fits next = fits_next None set next
+fits_rolled (Steady old) set fits next = (fits, fits_next (Steady old) set next, next.epoch)
 fits_rolled (Spreading old new) set fits next = absurd next.epoch
 
 fits_switched : (before : Phase) → FitsPhase before → FitsPhase (switched before)
@@ -114,7 +122,7 @@ fits_after h before (Roll time set) is fits may = fits_rolled before set fits (s
 fits_after h before (Switch time epoch) is fits may = fits_switched before fits
 fits_after h before _ is fits may = fits
 
--- the sets in force have at most 4 keys each, and epochs one after another
+-- the sets in force have at most 4 keys each, of 16 bytes, and epochs one after another
 pub phase_fits : (h : List Entry) → IsLegal h → FitsPhase (phase h)
 phase_fits =
     legal_induction (λ h. FitsPhase (phase h)) tt
@@ -136,6 +144,24 @@ ids_in_range None = All-nil IsKeyId
 ids_in_range (Steady set) = numbered_ids set.epoch 0 set.keys.items
 ids_in_range (Spreading old new) =
     All-append IsKeyId (keys_of old) (keys_of new) (numbered_ids old.epoch 0 old.keys.items) (numbered_ids new.epoch 0 new.keys.items)
+
+-- each key has 16 bytes
+abbrev pub HasWidth16 : ℕ × List ℕ → Type 0
+HasWidth16 key = length key.1 ≡ 16
+
+numbered_of_16 : (epoch place : ℕ) (keys : List (List ℕ)) → All (λ key. length key ≡ 16) keys → All HasWidth16 (numbered epoch place keys)
+numbered_of_16 epoch place [] wide = All-nil HasWidth16
+numbered_of_16 epoch place (key ∷ keys) wide =
+    All-cons HasWidth16 (key_id epoch place, key) (numbered epoch (place + 1) keys) (All-head (λ x. length x ≡ 16) key keys wide)
+    (numbered_of_16 epoch (place + 1) keys (All-tail (λ x. length x ≡ 16) key keys wide))
+
+-- the keys in force have 16 bytes
+pub keys_of_16 : (keys : Phase) → FitsPhase keys → All HasWidth16 (in_force keys)
+keys_of_16 None fits = All-nil HasWidth16
+keys_of_16 (Steady set) fits = numbered_of_16 set.epoch 0 set.keys.items fits.keys_of_16
+keys_of_16 (Spreading old new) fits =
+    All-append HasWidth16 (keys_of old) (keys_of new) (numbered_of_16 old.epoch 0 old.keys.items fits.0.keys_of_16)
+    (numbered_of_16 new.epoch 0 new.keys.items fits.1.keys_of_16)
 
 -- the ids are those of rising offsets from a base, within two bounds
 Rises : ℕ → ℕ → ℕ → List (ℕ × List ℕ) → Type 0
@@ -209,11 +235,11 @@ rises_in_force : (keys : Phase) → FitsPhase keys → (base : ℕ) × Rises bas
 unfolding Rises
 rises_in_force None fits = (0, omega arith)
 rises_in_force (Steady set) fits =
-    let keys = rises_numbered (4 * set.epoch) 0 set.epoch 0 set.keys.items (omega arith) (omega (arith, fits)) in
+    let keys = rises_numbered (4 * set.epoch) 0 set.epoch 0 set.keys.items (omega arith) (omega (arith, fits.few_keys)) in
     (4 * set.epoch, rises_to (4 * set.epoch) 0 4 8 (keys_of set) (omega arith) keys)
 rises_in_force (Spreading old new) fits =
-    let first = rises_numbered (4 * old.epoch) 0 old.epoch 0 old.keys.items (omega arith) (omega (arith, fits.0)) in
-    let second = rises_numbered (4 * old.epoch) 4 new.epoch 0 new.keys.items (omega (arith, fits.2)) (omega (arith, fits.1)) in
+    let first = rises_numbered (4 * old.epoch) 0 old.epoch 0 old.keys.items (omega arith) (omega (arith, fits.0.few_keys)) in
+    let second = rises_numbered (4 * old.epoch) 4 new.epoch 0 new.keys.items (omega (arith, fits.2)) (omega (arith, fits.1.few_keys)) in
     (4 * old.epoch, rises_then (4 * old.epoch) 0 4 8 (keys_of old) (keys_of new) first second (omega arith))
 
 -- the ids of the keys in force are 1 to 252, and no two keys have one

@@ -90,18 +90,18 @@ next_end h g e c n =
     block_end-push h c e ∙ ap (λ (x : ℕ). block_end_after c x e) (same_end h g c n.twins) ∙ sym (block_end-push g c e)
 
 -- a number after one more entry was there before, or the entry decides it
-number_cases : (h : List Entry) (e : Entry) (c n : ℕ) → HasNumber (h ++ e ∷ []) c n → HasNumber h c n ⊎ IsDecision c n e
+pub number_cases : (h : List Entry) (e : Entry) (c n : ℕ) → HasNumber (h ++ e ∷ []) c n → HasNumber h c n ⊎ IsDecision c n e
 number_cases h e c n has = elim (Contains-push_cases h e has.1 (has.0, has.2, has.3)) [
   | inl old ↦ inl (Any-from_contains (IsDecision c n) h has.1 old has.4)
   | inr new ↦ inr (subst (IsDecision c n) (sym new) has.4)
 ]
 
-number_kept : (h : List Entry) (e : Entry) (c n : ℕ) → HasNumber h c n → HasNumber (h ++ e ∷ []) c n
+pub number_kept : (h : List Entry) (e : Entry) (c n : ℕ) → HasNumber h c n → HasNumber (h ++ e ∷ []) c n
 number_kept h e c n has =
     Any-from_contains (IsDecision c n) (h ++ e ∷ []) has.1
     (Contains-append_left h (e ∷ []) has.1 (has.0, has.2, has.3)) has.4
 
-number_pushed : (h : List Entry) (e : Entry) (c n : ℕ) → IsDecision c n e → HasNumber (h ++ e ∷ []) c n
+pub number_pushed : (h : List Entry) (e : Entry) (c n : ℕ) → IsDecision c n e → HasNumber (h ++ e ∷ []) c n
 number_pushed h e c n decides = Any-from_contains (IsDecision c n) (h ++ e ∷ []) e (Contains-pushed h e) decides
 
 -- a number within the window is decided in both
@@ -139,7 +139,7 @@ same_answer h g (Some settings) _ same = refl
 same_answer h g None _ same = refl
 
 -- the answer of an entry that follows
-answer_pushed : (h : List Entry) (e : Entry) (c n : ℕ) → IsDecision c n e
+pub answer_pushed : (h : List Entry) (e : Entry) (c n : ℕ) → IsDecision c n e
     → IsAnswer (h ++ e ∷ []) c n (answer_after h (current_settings h) e)
 answer_pushed h e c n decides = record {
   before = h;

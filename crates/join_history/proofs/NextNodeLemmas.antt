@@ -41,11 +41,11 @@ greatest_unique P n m a b = elim a.holds [
 ]
 
 -- a property that no number has has the greatest number 0
-none_greatest : (P : ℕ → Type 0) → ((n : ℕ) → P n → ⊥) → IsGreatest P 0
+pub none_greatest : (P : ℕ → Type 0) → ((n : ℕ) → P n → ⊥) → IsGreatest P 0
 none_greatest P none = record { holds = inl refl; at_most = λ m holds. absurd (none m holds) }
 
 -- properties that hold of the same numbers have the same greatest one
-greatest_same : (P Q : ℕ → Type 0) (n : ℕ) → ((m : ℕ) → P m → Q m) → ((m : ℕ) → Q m → P m) → IsGreatest P n → IsGreatest Q n
+pub greatest_same : (P Q : ℕ → Type 0) (n : ℕ) → ((m : ℕ) → P m → Q m) → ((m : ℕ) → Q m → P m) → IsGreatest P n → IsGreatest Q n
 greatest_same P Q n there back a = record {
   holds = elim a.holds [
     | inl none ↦ inl none
@@ -107,7 +107,7 @@ newest_step h (Stale time id epoch) may so_far = rolled_longer h (Stale time id 
 newest_step h (Release time id) may so_far = rolled_longer h (Release time id) (epoch_of (phase h)) so_far
 
 -- the newest epoch was rolled
-newest_rolled : (h : List Entry) → IsLegal h → IsRolled h (epoch_of (phase h))
+pub newest_rolled : (h : List Entry) → IsLegal h → IsRolled h (epoch_of (phase h))
 newest_rolled =
     legal_induction (λ h. IsRolled h (epoch_of (phase h))) (inl refl)
     (λ h e legal may so_far. subst (λ keys. IsRolled (h ++ e ∷ []) (epoch_of keys)) (sym (phase-push h e)) (newest_step h e may so_far))
@@ -120,7 +120,7 @@ contains_split (y ∷ ys) x (zero, small, is) = ([], ys, ap (λ z. z ∷ ys) is)
 contains_split (y ∷ ys) x (suc k, small, is) =
     let rest = contains_split ys x (k, omega (arith, small), is) in (y ∷ rest.0, rest.1, ap (λ l. y ∷ l) rest.2)
 
-no_any : {X : Type 0} {P : X → Type 0} → Any P [] → ⊥
+pub no_any : {X : Type 0} {P : X → Type 0} → Any P [] → ⊥
 no_any some = omega (arith, some.2)
 
 -- no entry is both a Grant and a Stale
@@ -158,7 +158,7 @@ grant_keeps_phase h (Grant time context number address until) p keys granted = r
 grant_keeps_phase h _ p keys granted = absurd granted
 
 -- after a Grant the newest epoch is the greatest that the pledge has
-granted_greatest : (h : List Entry) (e : Entry) (p : PledgeId) → IsLegal h → MayFollow h e → IsGrantTo (h ++ e ∷ []) p e
+pub granted_greatest : (h : List Entry) (e : Entry) (p : PledgeId) → IsLegal h → MayFollow h e → IsGrantTo (h ++ e ∷ []) p e
     → IsGreatest (Has (h ++ e ∷ []) p) (epoch_of (phase h))
 granted_greatest h e p legal may granted =
     let same : phase (h ++ e ∷ []) ≡ phase h = phase-push h e ∙ grant_keeps_phase (h ++ e ∷ []) e p (phase h) granted in
@@ -174,12 +174,12 @@ granted_greatest h e p legal may granted =
     }
 
 -- after a Given or a Stale of the epoch that is handed out that epoch is the greatest
-spoken_greatest : (P : ℕ → Type 0) (newest epoch : ℕ) → ((m : ℕ) → P m → m ≤ newest) → epoch ≡ newest → P epoch
+pub spoken_greatest : (P : ℕ → Type 0) (newest epoch : ℕ) → ((m : ℕ) → P m → m ≤ newest) → epoch ≡ newest → P epoch
     → IsGreatest P newest
 spoken_greatest P newest epoch most same holds = record { holds = inr (subst P same holds); at_most = most }
 
 -- an epoch that a pledge has after an entry that is no Grant to it and no Given of it
-has_before : (h : List Entry) (e : Entry) (p : PledgeId) (epoch : ℕ) → IsLegal h → (IsGrantTo (h ++ e ∷ []) p e → ⊥)
+pub has_before : (h : List Entry) (e : Entry) (p : PledgeId) (epoch : ℕ) → IsLegal h → (IsGrantTo (h ++ e ∷ []) p e → ⊥)
     → (IsGivenTo (h ++ e ∷ []) p epoch e → ⊥) → Has (h ++ e ∷ []) p epoch → Has h p epoch
 has_before h e p epoch legal no_grant no_given (inl since) =
     elim (in_pushed h e since.before since.roll since.after since.place) [
@@ -207,7 +207,7 @@ has_before h e p epoch legal no_grant no_given (inr given) =
     ]
 
 -- the entry says of the pledge that it has some epoch, or not
-given_some : (h : List Entry) (e : Entry) (p : PledgeId)
+pub given_some : (h : List Entry) (e : Entry) (p : PledgeId)
     → ((epoch : ℕ) × IsGivenTo h p epoch e) ⊎ ((epoch : ℕ) → IsGivenTo h p epoch e → ⊥)
 given_some h (Given time context number f) p = elim (owner_decides h context p) [
   | inl owner ↦ inl (f, (owner, refl))
@@ -215,7 +215,7 @@ given_some h (Given time context number f) p = elim (owner_decides h context p) 
 ]
 given_some h _ p = inr (λ epoch given. given)
 
-stale_some : (e : Entry) (p : PledgeId) → ((epoch : ℕ) × IsStaleOf p epoch e) ⊎ ((epoch : ℕ) → IsStaleOf p epoch e → ⊥)
+pub stale_some : (e : Entry) (p : PledgeId) → ((epoch : ℕ) × IsStaleOf p epoch e) ⊎ ((epoch : ℕ) → IsStaleOf p epoch e → ⊥)
 stale_some (Stale time id f) p = elim (pledge_decides id p) [
   | inl same ↦ inl (f, (same, refl))
   | inr other ↦ inr (λ epoch stale. other stale.0)
@@ -223,13 +223,13 @@ stale_some (Stale time id f) p = elim (pledge_decides id p) [
 stale_some _ p = inr (λ epoch stale. stale)
 
 -- a Given and a Stale speak of the newest epoch
-given_newest : (h : List Entry) (e : Entry) (p : PledgeId) (epoch : ℕ) → MayFollow h e → IsGivenTo (h ++ e ∷ []) p epoch e
+pub given_newest : (h : List Entry) (e : Entry) (p : PledgeId) (epoch : ℕ) → MayFollow h e → IsGivenTo (h ++ e ∷ []) p epoch e
     → epoch ≡ epoch_of (phase (h ++ e ∷ []))
 given_newest h (Given time context number f) p epoch may given =
     sym given.1 ∙ spread_newest (phase h) f may.2.1 ∙ ap epoch_of (sym (phase-push h (Given time context number f)))
 given_newest h _ p epoch may given = absurd given
 
-stale_newest : (h : List Entry) (e : Entry) (p : PledgeId) (epoch : ℕ) → MayFollow h e → IsStaleOf p epoch e
+pub stale_newest : (h : List Entry) (e : Entry) (p : PledgeId) (epoch : ℕ) → MayFollow h e → IsStaleOf p epoch e
     → epoch ≡ epoch_of (phase (h ++ e ∷ []))
 stale_newest h (Stale time id f) p epoch may stale =
     sym stale.1 ∙ spread_newest (phase h) f may.0.1 ∙ ap epoch_of (sym (phase-push h (Stale time id f)))
@@ -267,7 +267,7 @@ next_has h g e p n old s not a b is = elim (given_some (h ++ e ∷ []) e p) [
 -- ---- epochs for which a pledge is stale
 
 -- after a Grant the pledge is stale for nothing
-granted_not_stale : (h : List Entry) (e : Entry) (p : PledgeId) (epoch : ℕ) → IsGrantTo (h ++ e ∷ []) p e
+pub granted_not_stale : (h : List Entry) (e : Entry) (p : PledgeId) (epoch : ℕ) → IsGrantTo (h ++ e ∷ []) p e
     → IsStaleFor (h ++ e ∷ []) p epoch → ⊥
 granted_not_stale h e p epoch granted stale =
     elim (in_pushed h e stale.before stale.stale stale.after stale.place) [
@@ -278,7 +278,7 @@ granted_not_stale h e p epoch granted stale =
     ]
 
 -- what a pledge is stale for after an entry that is no Stale of it, it was stale for before
-stale_before : (h : List Entry) (e : Entry) (p : PledgeId) (epoch : ℕ) → (IsStaleOf p epoch e → ⊥)
+pub stale_before : (h : List Entry) (e : Entry) (p : PledgeId) (epoch : ℕ) → (IsStaleOf p epoch e → ⊥)
     → IsStaleFor (h ++ e ∷ []) p epoch → IsStaleFor h p epoch
 stale_before h e p epoch not stale =
     elim (in_pushed h e stale.before stale.stale stale.after stale.place) [
@@ -360,7 +360,7 @@ granted_node h g e x s is new granted =
     }
 
 -- an older Grant's effect after one more entry
-effect_before : (h : List Entry) (e x : Entry) (p : PledgeId) → (IsGrantTo (h ++ e ∷ []) p e → ⊥) → IsGrantTo (h ++ e ∷ []) p x
+pub effect_before : (h : List Entry) (e x : Entry) (p : PledgeId) → (IsGrantTo (h ++ e ∷ []) p e → ⊥) → IsGrantTo (h ++ e ∷ []) p x
     → IsInEffect (h ++ e ∷ []) p x → IsInEffect h p x × (IsReleaseOf p e → ⊥)
 effect_before h e x p not granted effect = elim (IsInEffect-cases h e x p effect) [
   | inl new ↦ absurd (not (subst (IsGrantTo (h ++ e ∷ []) p) (sym new) granted))

@@ -60,7 +60,7 @@ one_grant_place h before after before' after' time c n a until legal is is' =
           (subst IsLegal (is ∙ ap (λ l. l ++ grant ∷ after) right) legal) (refl, refl) (refl, refl))
     ]
 
-same_after : (before after after' : List Entry) (x : Entry) → before ++ x ∷ after ≡ before ++ x ∷ after' → after ≡ after'
+pub same_after : (before after after' : List Entry) (x : Entry) → before ++ x ∷ after ≡ before ++ x ∷ after' → after ≡ after'
 same_after [] after after' x is = cc
 same_after (y ∷ before) after after' x is = let rest : before ++ x ∷ after ≡ before ++ x ∷ after' = cc in same_after before after after' x rest
 
@@ -146,7 +146,7 @@ SpeaksOf epoch _ = ⊥
 abbrev pub IsEpoch : Phase → ℕ → Type 0
 IsEpoch keys epoch = (1 ≤ epoch) × (epoch ≤ epoch_of keys)
 
-spreading_epoch : (keys : Phase) (epoch : ℕ) → FitsPhase keys → IsSpreading keys epoch → IsEpoch keys epoch
+pub spreading_epoch : (keys : Phase) (epoch : ℕ) → FitsPhase keys → IsSpreading keys epoch → IsEpoch keys epoch
 spreading_epoch None epoch fits spreading = absurd spreading
 spreading_epoch (Steady set) epoch fits spreading = absurd spreading
 spreading_epoch (Spreading old new) epoch fits spreading = (omega (arith, spreading, fits.2), omega (arith, spreading))

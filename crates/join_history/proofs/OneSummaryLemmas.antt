@@ -155,7 +155,7 @@ one_lease h x y (Grant t c n a u) f id same lease other =
 one_lease h x y _ f id same lease other = absurd lease
 
 -- a pledge has one node
-one_node : (h : List Entry) (x y : SumNode) → x.id ≡ y.id → IsSumNode h x → IsSumNode h y → x ≡ y
+pub one_node : (h : List Entry) (x y : SumNode) → x.id ≡ y.id → IsSumNode h x → IsSumNode h y → x ≡ y
 one_node h x y id a b =
     let mine = subst (λ q. IsLast (IsGrantTo h q) h (Grant a.time x.context a.number a.address a.until)) id a.last in
     let same : Grant a.time x.context a.number a.address a.until ≡ Grant b.time y.context b.number b.address b.until =

@@ -59,7 +59,7 @@ pub same_count : (h g : List Entry) → Twins h g → context_count h ≡ contex
 same_count h g t = sym t.is.context_count ∙ t.is_other.context_count
 
 -- the current settings are those of the last Settings entry
-pub settings_of : (ℕ × Settings) → Settings
+unfoldable pub settings_of : (ℕ × Settings) → Settings
 settings_of timed = timed.1
 
 untimed : (before : Option (ℕ × Settings)) (h : List Entry)
@@ -99,7 +99,7 @@ shared_context h g c t below =
     }
 
 -- a context that isn't enrolled has no pledge
-unenrolled_pledge : (h : List Entry) (c : ℕ) → IsLegal h → context_count h ≤ c → pledge_of h c ≡ None
+pub unenrolled_pledge : (h : List Entry) (c : ℕ) → IsLegal h → context_count h ≤ c → pledge_of h c ≡ None
 unenrolled_pledge h c legal past = elim (option_cases (pledge_of h c)) [
   | inl none ↦ none
   | inr known ↦ let below = enrolled_below h c known.0 legal known.1 in absurd (omega (arith, below, past))

@@ -1,5 +1,5 @@
 -- The inner answer of a decision: a code, and a payload after the marker where there is one (RFC 7252, 3; RFC 9031, 8.4).
-use Rattle.std.specs.Prelude.{◌≡◌, ◌==◌, if◌then◌else◌, ℕ, ◌^◌, ◌<◌, ◌≤◌, List, [], ◌∷◌, ◌++◌, length, Option, Some, None, All, IfSome, map}
+use Rattle.std.specs.Prelude.{◌≡◌, ◌==◌, if◌then◌else◌, ℕ, List, [], ◌∷◌, ◌++◌, Option, Some, None, map}
 use Rattle.key_sets.specs.declared.phase.Phase.{Phase}
 use Rattle.key_sets.specs.Keys.{in_force}
 use Rattle.cbor_cojp.specs.declared.key.LinkKey.{LinkKey}
@@ -51,14 +51,6 @@ configuration keys settings address = record {
   refused = record { items = map (λ (p : PledgeId). p.0) settings.refused.items };
   rate = settings.rate;
 }
-
--- The widths that the types of keys and settings have: keys of 16 bytes, addresses of 16, identifiers of 8, a rate of 4.
-pub record HaveWidths (keys : Phase) (settings : Settings) : Type 0 where
-  pub keys_of_16 : All (λ key. length key.1 ≡ 16) (in_force keys)
-  pub jrc_of_16 : IfSome settings.jrc (λ address. length address ≡ 16)
-  pub ids_of_8 : All (λ p. length p.0 ≡ 8) settings.refused.items
-  pub few_ids : length settings.refused.items ≤ 16
-  pub rate_fits : IfSome settings.rate (λ rate. rate < 2 ^ 32)
 
 -- the inner answer of a Grant: 2.04 with its Configuration
 unfoldable pub grant_answer : Phase → Settings → ℕ → List ℕ

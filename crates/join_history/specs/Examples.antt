@@ -1,5 +1,5 @@
 -- Short histories that fix the numbers of the rules: each is shown at its number and one beside it.
-use Rattle.std.specs.Prelude.{◌≡◌, ℕ, ◌+◌, ◌-◌, ◌^◌, List, [], ◌∷◌, ◌++◌, Some, None}
+use Rattle.std.specs.Prelude.{◌≡◌, ℕ, ◌+◌, ◌-◌, ◌^◌, List, [], ◌∷◌, ◌++◌, Some, None, replicate}
 use Rattle.edge_traits.specs.declared.names.PledgeId.{PledgeId}
 use Rattle.key_sets.specs.declared.set.KeySet.{KeySet}
 use Rattle.journal_text.specs.declared.settings.Settings.{Settings}
@@ -32,6 +32,14 @@ pool first count hours = record { first = first; count = count; hours = hours; r
 -- a set of an epoch with these keys
 abbrev pub set_of : ℕ → List (List ℕ) → KeySet
 set_of epoch keys = record { epoch = epoch; keys = record { items = keys } }
+
+-- the key of 16 zeros
+abbrev pub zeros : List ℕ
+zeros = replicate 16 0
+
+-- a set of an epoch with that key alone
+abbrev pub single : ℕ → KeySet
+single epoch = set_of epoch (zeros ∷ [])
 
 -- the pledge a1 has context 0, with a pool of the addresses 1 and 2
 abbrev pub enrolled : ℕ → List Entry
@@ -88,6 +96,19 @@ pub record Pools : Type 0 where
   pub last_address : IsInPool (enrolled 1) 2
   pub past_last : IsInPool (enrolled 1) 3 → ⊥
 
+-- settings with this rate, this address of the registrar and these refused pledges
+abbrev pub telling : ℕ → List ℕ → List PledgeId → Settings
+telling rate jrc refused = record { first = 1; count = 1; hours = 0; rate = Some rate; jrc = Some jrc; refused = record { items = refused } }
+
+-- a rate has 32 bits, the registrar's address 16 bytes and an identifier 8, and 16 pledges are refused at most
+pub record Widths : Type 0 where
+  pub widest : IsInRange (telling (2 ^ 32 - 1) zeros (replicate 16 a1))
+  pub rate_past : IsInRange (telling (2 ^ 32) zeros []) → ⊥
+  pub short_address : IsInRange (telling 1 (replicate 15 0) []) → ⊥
+  pub long_address : IsInRange (telling 1 (replicate 17 0) []) → ⊥
+  pub many_refused : IsInRange (telling 1 zeros (replicate 17 a1)) → ⊥
+  pub long_identifier : IsInRange (telling 1 zeros (record { 0 = replicate 9 0 } ∷ [])) → ⊥
+
 -- times and numbers are below 2^40
 pub record Below : Type 0 where
   pub last_time : IsTimely [] (2 ^ 40 - 1)
@@ -109,17 +130,19 @@ pub record Releases : Type 0 where
   pub within : MayFollow (granted 0 0) (Release 600 a1) → ⊥
   pub nothing_held : MayFollow (enrolled 0) (Release 601 a1) → ⊥
 
--- a set has 1 to 4 keys, and the first epoch is 1
+-- a set has 1 to 4 keys of 16 bytes, and the first epoch is 1
 pub record Rolls : Type 0 where
-  pub four_keys : MayFollow [] (Roll 0 (set_of 1 ([] ∷ [] ∷ [] ∷ [] ∷ [])))
-  pub five_keys : MayFollow [] (Roll 0 (set_of 1 ([] ∷ [] ∷ [] ∷ [] ∷ [] ∷ []))) → ⊥
+  pub four_keys : MayFollow [] (Roll 0 (set_of 1 (zeros ∷ zeros ∷ zeros ∷ zeros ∷ [])))
+  pub five_keys : MayFollow [] (Roll 0 (set_of 1 (zeros ∷ zeros ∷ zeros ∷ zeros ∷ zeros ∷ []))) → ⊥
   pub no_key : MayFollow [] (Roll 0 (set_of 1 [])) → ⊥
-  pub epoch_zero : MayFollow [] (Roll 0 (set_of 0 ([] ∷ []))) → ⊥
-  pub epoch_two : MayFollow [] (Roll 0 (set_of 2 ([] ∷ []))) → ⊥
+  pub short_key : MayFollow [] (Roll 0 (set_of 1 (replicate 15 0 ∷ []))) → ⊥
+  pub long_key : MayFollow [] (Roll 0 (set_of 1 (replicate 17 0 ∷ []))) → ⊥
+  pub epoch_zero : MayFollow [] (Roll 0 (single 0)) → ⊥
+  pub epoch_two : MayFollow [] (Roll 0 (single 2)) → ⊥
 
 -- a1's lease of one hour and its first Block, before the Rolls of the epochs 1 and 2
 abbrev pub spreading : List Entry
-spreading = granted 1 0 ++ Block 0 64 ∷ Roll 1 (set_of 1 ([] ∷ [])) ∷ Roll 2 (set_of 2 ([] ∷ [])) ∷ []
+spreading = granted 1 0 ++ Block 0 64 ∷ Roll 1 (single 1) ∷ Roll 2 (single 2) ∷ []
 
 -- a Grant before the Roll brings no keys of it, and a Switch waits for live leases alone
 pub record Switches : Type 0 where
@@ -162,6 +185,6 @@ pub record Answered : Type 0 where
 
 -- a summary keeps a Grant as long as its address is held
 pub record SummaryGrants : Type 0 where
-  pub in_grace : IsSumGrant (granted 1 0 ++ Roll 7199 (set_of 1 ([] ∷ [])) ∷ []) (record { id = a1; address = 1; until = 3600 })
-  pub after_grace : IsSumGrant (granted 1 0 ++ Roll 7200 (set_of 1 ([] ∷ [])) ∷ []) (record { id = a1; address = 1; until = 3600 }) → ⊥
+  pub in_grace : IsSumGrant (granted 1 0 ++ Roll 7199 (single 1) ∷ []) (record { id = a1; address = 1; until = 3600 })
+  pub after_grace : IsSumGrant (granted 1 0 ++ Roll 7200 (single 1) ∷ []) (record { id = a1; address = 1; until = 3600 }) → ⊥
   pub released : IsSumGrant (granted 1 0 ++ Release 601 a1 ∷ []) (record { id = a1; address = 1; until = 3600 }) → ⊥

@@ -18,7 +18,7 @@ use Rattle.join_history.specs.Phases.{phase}
 use Rattle.join_history.specs.Epochs.{Has, IsStaleFor}
 use Rattle.join_history.specs.Legal.{IsLegal, MayFollow}
 use Rattle.join_history.specs.Due.{IsWish, IsDue}
-use Rattle.join_history.specs.Answers.{configuration, HaveWidths, IsAnswer}
+use Rattle.join_history.specs.Answers.{configuration, IsAnswer}
 use Rattle.cbor_cojp.specs.Config.{IsConfig}
 use Rattle.join_history.specs.Updates.{Waits, IsFirstWaiting}
 use Rattle.join_history.specs.Opening.{IsOpened}
@@ -156,7 +156,6 @@ OneAnswer = (h : List Entry) (c n : ℕ) (bytes other : List ℕ) → IsLegal h 
 abbrev pub GrantAnswerFits : Type 0
 GrantAnswerFits = (before after : List Entry) (time c n a until : ℕ) (settings : Settings)
     → IsLegal (before ++ Grant time c n a until ∷ after) → current_settings before ≡ Some settings
-    → HaveWidths (phase before) settings
     → (text : List ℕ) × IsAnswer (before ++ Grant time c n a until ∷ after) c n (68 ∷ 255 ∷ text)
     × IsConfig text (configuration (phase before) settings a) × (2 + length text ≤ 512)
 

@@ -1,5 +1,5 @@
 -- Legal histories: each entry may follow the entries before it.
-use Rattle.std.specs.Prelude.{◌≡◌, ◌+◌, ◌^◌, ◌<◌, ◌≤◌, ◌⊎◌, ℕ, List, ◌∷◌, ◌++◌, Some, Contains}
+use Rattle.std.specs.Prelude.{◌≡◌, ◌+◌, ◌^◌, ◌<◌, ◌≤◌, ◌⊎◌, ℕ, List, ◌∷◌, ◌++◌, Some, length, All, Contains, IfSome}
 use Rattle.edge_traits.specs.declared.names.PledgeId.{PledgeId}
 use Rattle.journal_text.specs.declared.settings.Settings.{Settings}
 use Rattle.journal_text.specs.declared.refusal.Refusal.{Refusal}
@@ -15,12 +15,17 @@ use Rattle.join_history.specs.Phases.{phase, IsSpreading, IsNextSet}
 use Rattle.join_history.specs.Epochs.{Has, IsStaleFor}
 use Rattle.join_history.specs.Leases.{current_settings, lease_end, Holds, IsLive, IsDueAddress, HasNoAddress}
 
--- a pool within 0x0001 to 0xFFFD, and a lease of up to 65535 hours, or 0 for one without end
+-- A pool within 0x0001 to 0xFFFD, and a lease of up to 65535 hours, or 0 for one without end. The rate, the registrar's
+-- address and the refused pledges have the widths that a Configuration gives them (RFC 9031, 8.4.2).
 pub record IsInRange (settings : Settings) : Type 0 where
   pub first : 1 ≤ settings.first
   pub count : 1 ≤ settings.count
   pub last : settings.first + settings.count ≤ 65534
   pub hours : settings.hours ≤ 65535
+  pub rate_fits : IfSome settings.rate (λ rate. rate < 2 ^ 32)
+  pub jrc_of_16 : IfSome settings.jrc (λ address. length address ≡ 16)
+  pub few_ids : length settings.refused.items ≤ 16
+  pub ids_of_8 : All (λ p. length p.0 ≡ 8) settings.refused.items
 
 -- the time isn't before the last one, and fits 40 bits
 pub record IsTimely (g : List Entry) (time : ℕ) : Type 0 where

@@ -1,5 +1,5 @@
 -- The phase of the rolling of keys (RFC 9031, 8.4.3).
-use Rattle.std.specs.Prelude.{◌≡◌, ℕ, ◌+◌, ◌^◌, ◌<◌, ◌≤◌, List, length, fold}
+use Rattle.std.specs.Prelude.{◌≡◌, ℕ, ◌+◌, ◌^◌, ◌<◌, ◌≤◌, List, length, fold, All}
 use Rattle.key_sets.specs.declared.set.KeySet.{KeySet}
 use Rattle.key_sets.specs.declared.phase.Phase.{Phase}
 use Rattle.key_sets.specs.declared.phase.Phase.TheVariants.{None, Steady, Spreading}
@@ -46,3 +46,4 @@ pub record IsNextSet (before : Phase) (set : KeySet) : Type 0 where
   pub epoch_fits : set.epoch < 2 ^ 32
   pub some_keys : 1 ≤ length set.keys.items
   pub few_keys : length set.keys.items ≤ 4
+  pub keys_of_16 : All (λ key. length key ≡ 16) set.keys.items

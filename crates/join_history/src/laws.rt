@@ -1,7 +1,7 @@
 //! The laws of legal histories.
 ghost use Rattle.join_history.specs.Laws.{OneHolder, OneLiveLease, DecidesOnce, OneNumber, OneCheck, KeepsAddress, OneDue, DueSomething, DueMayFollow, EmptyIsLegal, GrowsLegal, PrefixIsLegal, LeaseEnds, LeaseWithoutEnd, ReleasedHoldsNothing, ReleasedLate, BlockEnds, BlockEndsRise, EpochsRise, SwitchLeavesNone, KeyIdsDiffer, FirstWaitingIsLeast, AnswerStays, OneAnswer, GrantAnswerFits, RowsAreEnrolled, OpeningAgainAddsNothing};
 ghost use Rattle.join_history.specs.SummaryLaws.{SummaryFixesAnswers, SummaryFixesNext, OneSummary};
-ghost use Rattle.join_history.specs.Examples.{Hours, LeaseLives, AddressIsHeld, Repeats, Window, Contexts, Pools, Below, Blocks, Releases, Rolls, Switches, AnswerBytes, Updates, Answered, SummaryGrants};
+ghost use Rattle.join_history.specs.Examples.{Hours, LeaseLives, AddressIsHeld, Repeats, Window, Contexts, Pools, Widths, Below, Blocks, Releases, Rolls, Switches, AnswerBytes, Updates, Answered, SummaryGrants};
 
 /// Does nothing. Its clauses are laws: what holds of every legal history.
 pub fn history_laws()
@@ -59,6 +59,7 @@ pub fn history_examples()
     ensures window { Window }
     ensures contexts { Contexts }
     ensures pools { Pools }
+    ensures widths { Widths }
     ensures below { Below }
     ensures blocks { Blocks }
     ensures releases { Releases }

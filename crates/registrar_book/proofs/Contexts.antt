@@ -1,11 +1,16 @@
 -- Contexts and room, one entry more.
-use Rattle.std.proofs.Common.{◌≡◌, ℕ, ◌+◌, ◌≤◌, Bool, true, false, List, [], ◌∷◌, ◌++◌, arith}
+use Rattle.std.proofs.Common.{◌≡◌, ℕ, ◌+◌, ◌<◌, ◌≤◌, Bool, true, false, List, [], ◌∷◌, ◌++◌, arith}
 use Rattle.std.specs.Prelude.{IsTrue}
 use Rattle.journal_text.specs.declared.entry.Entry.{Entry}
 use Rattle.journal_text.specs.declared.entry.Entry.TheVariants.{Settings, Enroll, Grant, Refuse, Block, Roll, Given, Stale, Switch, Release}
 use Rattle.join_history.specs.Contexts.{context_count}
 use Rattle.registrar_state.specs.declared.room.Room.{Room}
-use Rattle.registrar_state.specs.Room.{TakesRoom}
+use Rattle.join_history.specs.Legal.{MayFollow}
+use Rattle.registrar_state.specs.Room.{HasRoomFor, TakesRoom}
+use Rattle.registrar_state.specs.State.{StandsFor, CanFollow}
+use Rattle.registrar_state.specs.declared.state.RegState.{RegState}
+use Rattle.registrar_state.proofs.LegalLemmas.{settings_there, enroll_there}
+use Rattle.registrar_book.specs.Known.{IsOpening}
 
 pub not_true : (b : Bool) → b ≡ false → IsTrue b → ⊥
 not_true true f t = absurd (cc f)
@@ -53,3 +58,25 @@ most_room old new (Given time context number epoch) takes = omega (arith, takes.
 most_room old new (Stale time id epoch) takes = omega (arith, takes.entries)
 most_room old new (Switch time epoch) takes = omega (arith, takes.entries)
 most_room old new (Release time id) takes = omega (arith, takes.entries)
+
+-- an entry that may follow has room where some is left for entries, and where the contexts and their room make the limit
+pub has_room : (room : Room) (e : Entry) (h : List Entry) → MayFollow h e → room.contexts + context_count h ≡ 32768 → 0 < room.entries
+    → HasRoomFor room e
+has_room room (Enroll context id check) h may contexts entries = let next = may.0 in let below = may.1 in omega (arith, next, below, contexts)
+has_room room (Settings time settings) h may contexts entries = entries
+has_room room (Grant time context number address until) h may contexts entries = entries
+has_room room (Refuse time context number why) h may contexts entries = entries
+has_room room (Block context to) h may contexts entries = entries
+has_room room (Roll time set) h may contexts entries = entries
+has_room room (Given time context number epoch) h may contexts entries = entries
+has_room room (Stale time id epoch) h may contexts entries = entries
+has_room room (Switch time epoch) h may contexts entries = entries
+has_room room (Release time id) h may contexts entries = entries
+
+-- what opening adds behind one history of a state may follow each
+pub opening_follows : (state : RegState) (h : List Entry) (e : Entry) → IsOpening e → StandsFor state h → MayFollow h e → CanFollow state e
+opening_follows state h (Settings time settings) kind stands may =
+    record { history = h; stands = stands; each = λ g stands'. settings_there state h g time settings stands stands' may }
+opening_follows state h (Enroll context id check) kind stands may =
+    record { history = h; stands = stands; each = λ g stands'. enroll_there state h g context id check stands stands' may }
+opening_follows state h _ kind stands may = absurd kind

@@ -6,3 +6,4 @@ pub mod Enrolling
 pub mod Planning
 pub mod Batches
 pub mod Equal
+pub mod IndexLemmas

@@ -20,7 +20,7 @@ use Rattle.join_history.proofs.LegalLemmas.{IsLegal-push, legal_induction}
 use Rattle.join_history.proofs.TimeLemmas.{last_time-lt, IsTimely-moment}
 use Rattle.registrar_book.specs.Journals.{size_limit, sizes_of, AreSmall}
 use Rattle.registrar_book.specs.Opening.{Row, HasContext, opening_time, HasTooManyEntries}
-use Rattle.registrar_book.specs.Known.{known_of, PlacesRows, IsRowAt, enrolls, first_entries, IsNewSettings, IsPlan}
+use Rattle.registrar_book.specs.Known.{known_of, PlacesRows, IsRowAt, enrolls, first_entries, IsNewSettings, IsPlan, IsOpening}
 use Rattle.registrar_book.proofs.Placing.{zip_map}
 use Rattle.registrar_book.proofs.Enrolling.{known_of-append, known_count, enroll_rows, known_after}
 
@@ -190,6 +190,17 @@ spelled : (log : List Entry) (settings : Settings) (now : Option ℕ) (first : O
 spelled log settings now None context rows same = spelled_enrolls context rows
 spelled log settings now (Some e) context rows new = (subst IsSpellable (sym new.1) tt, spelled_enrolls context rows)
 
+-- ---- kinds
+
+enrolls_open : (context : ℕ) (rows : List Row) → AllByRecursion IsOpening (enrolls context rows)
+enrolls_open context [] = tt
+enrolls_open context (row ∷ rows) = (tt, enrolls_open (context + 1) rows)
+
+all_open : (log : List Entry) (settings : Settings) (now : Option ℕ) (first : Option Entry) (context : ℕ) (rows : List Row)
+    → MatchOption first (current_settings log ≡ Some settings) (IsNewSettings log settings now) → AllByRecursion IsOpening (first_entries first ++ enrolls context rows)
+all_open log settings now None context rows same = enrolls_open context rows
+all_open log settings now (Some e) context rows new = (subst IsOpening (sym new.1) tt, enrolls_open context rows)
+
 length_enrolls : (context : ℕ) (rows : List Row) → length (enrolls context rows) ≡ length rows
 length_enrolls context [] = refl
 length_enrolls context (row ∷ rows) = omega (arith, length_enrolls (context + 1) rows)
@@ -222,6 +233,7 @@ module _ (log : List Entry) (settings : Settings) (rows : List Row) (now : Optio
     most = most;
     small = subst AreSmall (sym is) (small first (length (known_of log)) (drop (length (known_of log)) known));
     spellable = subst (AllByRecursion IsSpellable) (sym is) (spelled log settings now first (length (known_of log)) (drop (length (known_of log)) known) new);
+    kinds = subst (AllByRecursion IsOpening) (sym is) (all_open log settings now first (length (known_of log)) (drop (length (known_of log)) known) new);
   }
 
   pub too_many : (count : ℕ) → count ≡ length log + length entries → 262144 < count → HasTooManyEntries log settings rows now count

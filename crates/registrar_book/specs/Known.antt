@@ -75,6 +75,12 @@ first_entries (Some e) = e ∷ []
 abbrev pub IsNewSettings : List Entry → Settings → Option ℕ → Entry → Type 0
 IsNewSettings log settings now e = (current_settings log ≢ Some settings) × (e ≡ SettingsEntry (opening_time log now) settings)
 
+-- the entry is of a kind that opening adds
+abbrev pub IsOpening : Entry → Type 0
+IsOpening (SettingsEntry time settings) = ⊤
+IsOpening (Enroll context id check) = ⊤
+IsOpening _ = ⊥
+
 -- what opening adds behind a log, and the context of each row
 pub record IsPlan (log : List Entry) (settings : Settings) (rows : List Row) (now : Option ℕ) (entries : List Entry) (contexts : List ℕ) : Type 0 where
   pub opened : IsOpened log (opening_time log now) settings rows (log ++ entries)
@@ -83,3 +89,4 @@ pub record IsPlan (log : List Entry) (settings : Settings) (rows : List Row) (no
   pub most : length log + length entries ≤ 262144
   pub small : AreSmall entries
   pub spellable : AllByRecursion IsSpellable entries
+  pub kinds : AllByRecursion IsOpening entries

@@ -1,5 +1,6 @@
 pub mod Journals
 pub mod Books
 pub mod Opening
+pub mod Index
 pub mod Known
 pub mod Prepared

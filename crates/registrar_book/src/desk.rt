@@ -26,6 +26,8 @@ impl Desk {
     ghost use Rattle.join_history.specs.Legal.{IsLegal};
     ghost use Rattle.registrar_state.specs.Room.{HasRoomFor, TakesRoom};
     ghost use Rattle.registrar_state.specs.State.{StandsFor, CanFollow};
+    ghost use Rattle.std.specs.List.{AllByRecursion};
+    ghost use Rattle.registrar_book.specs.Known.{IsOpening};
 
     /// The length of the log.
     pub fn len(&self) -> u32
@@ -48,9 +50,10 @@ impl Desk {
         self.log.push_reserved(entry.clone().unwrap());
     }
 
-    /// Adds these entries, one after another. All of the log is durable then.
+    /// Adds the entries of an opening, one after another. All of the log is durable then.
     pub fn add_all(&mut self, entries: &[Entry])
         requires may_follow { (h : List Entry) × StandsFor self.old.state h × IsLegal (h ++ entries.now) }
+        requires kinds { AllByRecursion IsOpening entries.now }
         requires contexts { context_count entries.now ≤ (spare self.old.state).contexts }
         requires space { length self.old.log.items + length entries.now ≤ 262144 }
         ensures stands { (h : List Entry) → StandsFor self.old.state h → StandsFor self.new.state (h ++ entries.now) }

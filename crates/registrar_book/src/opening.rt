@@ -10,8 +10,9 @@ ghost use Rattle.registrar_book.specs.Prepared.{IsPrepared};
 
 use crate::OpenFault;
 use crate::desk::{Desk, ENTRY_LIMIT};
+use crate::known::Row;
 use crate::replay::{CONTEXT_LIMIT, replay};
-use crate::rows::{Row, known_contexts, place_rows};
+use crate::rows::{known_contexts, place_rows};
 use journal_text::{Entry, Settings};
 use registrar_state::{Opening, RegState};
 use std::alloc::{AllocError, Global};
@@ -90,17 +91,17 @@ pub fn make_plan(
     let Ok(mut known) = known_contexts(alloc, log) else {
         return Err(OpenFault::NoMemory);
     };
-    let first = known.as_slice().len();
+    let first = known.rows().len();
     let contexts = match place_rows(alloc, &mut known, &opening.rows) {
         Ok(contexts) => contexts,
         Err(fault) => return Err(fault),
     };
-    let count = known.as_slice().len();
+    let count = known.rows().len();
     if count > CONTEXT_LIMIT as usize {
         return Err(OpenFault::ContextsFull(count as u32));
     }
     let settings = new_settings(state, &opening.settings, now);
-    let Ok(entries) = opening_entries(alloc, settings, &known, first) else {
+    let Ok(entries) = opening_entries(alloc, settings, known.rows(), first) else {
         return Err(OpenFault::NoMemory);
     };
     let length = log.len() + entries.as_slice().len();

@@ -5,7 +5,7 @@ ghost use Rattle.join_history.specs.Legal.{IsInRange};
 ghost use Rattle.registrar_state.specs.State.{IsEnrolled, HasSettings};
 ghost use Rattle.registrar_book.specs.Books.{IsKept, state_of};
 
-use crate::rows::Row;
+use crate::known::Row;
 use crate::{Book, Closed, Decided, OpenFault};
 use arrayvec::ArrayVec;
 use edge_memory::MemDisk;

@@ -1,6 +1,30 @@
-mod LastScan
-mod Freshness
-mod AddressAnswers
-mod AddableLemmas
+pub mod ContextSteps
+pub mod NumberLemmas
+pub mod LeaseSteps
+pub mod AddableLemmas
+pub mod DueLemmas
 pub mod StateLemmas
-pub mod ScanLemmas
+pub mod AddressAnswers
+pub mod LegalLemmas
+pub mod PledgeEpochs
+pub mod PledgeGrants
+pub mod PledgeOrder
+pub mod PledgeWaits
+pub mod PledgeRoom
+pub mod PledgeSteps
+pub mod PledgeCount
+pub mod StateSteps
+pub mod GrantSteps
+pub mod EmptyLemmas
+pub mod RoomLemmas
+pub mod SettleLemmas
+pub mod KeysLemmas
+pub mod ReleaseLemmas
+pub mod UpdateLemmas
+pub mod RestoreLemmas
+pub mod RestoredLemmas
+pub mod ContextsRestored
+pub mod PledgesRestored
+pub mod StandsRestored
+pub mod SummaryLemmas
+pub mod LastLemmas

@@ -1,4 +1,11 @@
-pub mod Scans
 pub mod Last
 pub mod Room
+pub mod Contexts
+pub mod Due
+pub mod Decisions
+pub mod Leases
+pub mod LastGrants
+pub mod Pledges
 pub mod State
+pub mod Summary
+pub mod Restore

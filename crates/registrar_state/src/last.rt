@@ -1,11 +1,16 @@
 //! What a context was answered last.
-ghost use Rattle.std.specs.Prelude.{◌≡◌, MatchOption};
-ghost use Rattle.journal_text.specs.declared.entry.Entry.{Entry};
-ghost use Rattle.join_history.specs.Decisions.{IsLastDecision};
-ghost use Rattle.registrar_state.specs.Last.{IsLastAnswer};
+ghost use Rattle.std.specs.Prelude.{◌≡◌, ◌≢◌, ◌≤◌, ℕ};
+ghost use Rattle.cbor_cojp.specs.Config.{IsConfig};
+ghost use Rattle.join_history.specs.Answers.{hours_of};
+ghost use Rattle.registrar_state.specs.declared.last.Last.TheVariants as last;
+ghost use Rattle.registrar_state.specs.Last.{IsLeaseOf, IsLeaseBehind, IsToldBy};
 
-use crate::decisions::last_decision;
-use journal_text::Entry;
+use crate::legal::lease_end;
+use crate::times::LATEST;
+use cbor_cojp::{Configuration, read_config};
+
+/// The code of a Grant's answer, 2.04.
+const CHANGED: u8 = 68;
 
 /// The last answer to a context: an address and the second at which its lease ends, or the code of a refusal.
 #[derive(Clone, Copy, Debug, PartialEq, Eq)]
@@ -14,16 +19,70 @@ pub enum Last {
     Refuse(u8),
 }
 
-pub(crate) fn last_answer(entries: &[Entry], context: u32) -> Option<Last>
-    ensures { MatchOption result ((e : Entry) → IsLastDecision entries.now context e → ⊥)
-        (IsLastAnswer entries.now context) }
+/// The hours of a lease as settings have them: 0 for one without end.
+fn whole_hours(hours: Option<u32>) -> u16
+    ensures { (h : ℕ) → h ≤ 65535 → hours ≡ hours_of h → result ≡ h }
 {
-    let Some(entry) = last_decision(entries, context) else {
-        return None;
-    };
-    match entry {
-        Entry::Grant { address, until, .. } => Some(Last::Grant(*address, *until)),
-        Entry::Refuse { why, .. } => Some(Last::Refuse(why.code())),
-        _ => None,
+    match hours {
+        None => 0,
+        Some(hours) => match u16::try_from(hours) {
+            Ok(hours) => hours,
+            Err(_) => u16::MAX,
+        },
+    }
+}
+
+/// The lease that a Configuration of this time brings, or a refusal where it brings none.
+fn lease_of(config: &Configuration, time: u64) -> Last
+    ensures { IsLeaseOf (λ x. config.now ≡ x) time result }
+{
+    match config.short {
+        None => Last::Refuse(CHANGED),
+        Some(short) => Last::Grant(
+            short.address,
+            lease_end(time.min(LATEST), whole_hours(short.hours)),
+        ),
+    }
+}
+
+/// The lease that a Configuration of this time brings, read from its bytes.
+fn lease_in(bytes: &[u8], time: u64) -> Last
+    ensures { IsLeaseOf (IsConfig bytes.now) time result }
+{
+    match read_config(bytes) {
+        Ok(config) => lease_of(&config, time),
+        Err(_) => Last::Refuse(CHANGED),
+    }
+}
+
+/// The lease that stands behind the marker of a Grant's payload.
+fn lease_behind(payload: &[u8], time: u64) -> Last
+    ensures { IsLeaseBehind payload.now time result }
+{
+    match payload.split_first() {
+        None => Last::Refuse(CHANGED),
+        Some((_marker, bytes)) => lease_in(bytes, time),
+    }
+}
+
+/// What an answer of this code told.
+fn told_by(code: u8, payload: &[u8], time: u64) -> Last
+    ensures lease { code ≡ 68 → IsLeaseBehind payload.now time result }
+    ensures refusal { code ≢ 68 → result ≡ last.Refuse code }
+{
+    if code == CHANGED {
+        lease_behind(payload, time)
+    } else {
+        Last::Refuse(code)
+    }
+}
+
+/// What the answer of a decision that was made at this time told: read from its bytes.
+pub(crate) fn told_of(answer: &[u8], time: u64) -> Last
+    ensures { IsToldBy answer.now time result }
+{
+    match answer.split_first() {
+        None => Last::Refuse(0),
+        Some((code, payload)) => told_by(*code, payload, time),
     }
 }

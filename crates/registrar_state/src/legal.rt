@@ -1,27 +1,21 @@
-//! Which entries may follow a history.
-ghost use Rattle.std.specs.Prelude.{◌≡◌, ◌↔◌, ◌≤◌, ◌<◌, ◌^◌, ◌+◌, ℕ, Some, IsTrue, IfSome, MatchOption, Contains, All, ◌⊎◌};
-ghost use Rattle.edge_traits.specs.declared.names.PledgeId.{PledgeId};
-ghost use Rattle.journal_text.specs.declared.settings.Settings.{Settings};
-ghost use Rattle.journal_text.specs.declared.entry.Entry.{Entry};
-ghost use Rattle.join_history.specs.Epochs.{Has, IsStaleFor};
-ghost use Rattle.join_history.specs.Decisions.{IsDecisionFor};
-ghost use Rattle.join_history.specs.Phases.{phase, IsSpreading};
-ghost use Rattle.journal_text.specs.declared.entry.Entry.TheVariants.{Grant, Refuse, Block, Given, Stale, Switch, Release};
-ghost use Rattle.join_history.specs.Legal.{IsLegal, IsInRange, IsTimely, IsTrueReason, MayDecide, Lacks, HasAged, MayFollow};
+//! Which entries may follow.
+ghost use Rattle.std.specs.Prelude.{◌≡◌, ◌↔◌, ◌≤◌, ◌<◌, ◌^◌, ◌+◌, ℕ, List, length, Some, IsTrue, All, IfSome, MatchOption};
+ghost use Rattle.edge_traits.specs.declared.names.PledgeId.{PledgeId as Id};
+ghost use Rattle.journal_text.specs.declared.settings.Settings.{Settings as ASettings};
+ghost use Rattle.journal_text.specs.declared.entry.Entry.{Entry as AnEntry};
+ghost use Rattle.journal_text.specs.declared.entry.Entry.TheVariants.{Enroll, Grant, Refuse, Block};
+ghost use Rattle.join_history.specs.Contexts.{HasCheck};
+ghost use Rattle.join_history.specs.Decisions.{IsFresh};
+ghost use Rattle.join_history.specs.Legal.{IsInRange, IsTimely, IsTrueReason, MayDecide, MayFollow};
 ghost use Rattle.join_history.specs.Leases as leases;
-ghost use Rattle.registrar_state.specs.Scans.{IsServed, IsReady, IsAged};
 ghost use Rattle.join_history.specs.Leases.{current_settings, IsDueAddress, HasNoAddress};
+ghost use Rattle.registrar_state.specs.State.{StandsFor, IsNow, IsSome};
 
-use crate::blocks::block_end;
-use crate::contexts::{context_count, has_check, pledge_of};
-use crate::decisions::is_fresh;
-use crate::due::REPEAT_SPAN;
-use crate::epochs::{has, is_stale_for};
-use crate::leases::{self, due_address, holds_some, is_live};
-use crate::phases::{self, is_next_set, is_spreading};
-use crate::times::{LATEST, last_time};
+use crate::state::RegState;
+use crate::times::LATEST;
 use edge_traits::PledgeId;
-use journal_text::{Entry, Refusal, Settings};
+use journal_text::{Refusal, Settings};
+use replay_window::Judged;
 
 /// How many numbers a Block adds.
 const BLOCK: u64 = 64;
@@ -38,10 +32,20 @@ pub const POOL_END: u32 = 65_534;
 /// The longest lease with an end, in hours.
 const MAX_HOURS: u16 = 65_535;
 
+/// The bytes of the registrar's address.
+const ADDRESS_BYTES: usize = 16;
+
+/// The bytes of an identifier.
+const ID_BYTES: usize = 8;
+
+/// How many pledges may be refused.
+const MOST_REFUSED: usize = 16;
+
+/// The seconds of an hour.
 const SECONDS_AN_HOUR: u64 = 3600;
 
 /// The second at which a lease of so many hours ends, or 2^64 - 1 where it has no end.
-pub fn lease_end(at: u64, hours: u16) -> u64
+pub(crate) fn lease_end(at: u64, hours: u16) -> u64
     requires { at < 2 ^ 40 }
     ensures { result ≡ leases.lease_end at hours }
 {
@@ -52,284 +56,192 @@ pub fn lease_end(at: u64, hours: u16) -> u64
     }
 }
 
-fn is_in_range(settings: &Settings) -> bool
+/// Whether the rate has 32 bits, which is known of what is read here.
+fn is_rate(rate: Option<u32>) -> bool
+    ensures { IsTrue result ↔ IfSome rate (λ n. n < 2 ^ 32) }
+{
+    match rate {
+        None => true,
+        Some(_rate) => true,
+    }
+}
+
+/// Whether the registrar's address has 16 bytes.
+fn is_jrc(jrc: Option<[u8; 16]>) -> bool
+    ensures { IsTrue result ↔ IfSome jrc (λ address. length address ≡ 16) }
+{
+    match jrc {
+        None => true,
+        Some(address) => address.len() == ADDRESS_BYTES,
+    }
+}
+
+/// Whether the identifier has 8 bytes.
+fn is_identifier(id: PledgeId) -> bool
+    ensures { IsTrue result ↔ (length id.0 ≡ 8) }
+{
+    id.0.len() == ID_BYTES
+}
+
+/// Whether each of the refused pledges has an identifier of 8 bytes.
+fn are_identifiers(ids: &[PledgeId]) -> bool
+    ensures { IsTrue result ↔ All (λ p. length p.0 ≡ 8) ids.now }
+{
+    ids.iter().all(|id| is_identifier(*id))
+}
+
+pub(crate) fn is_in_range(settings: &Settings) -> bool
     ensures { IsTrue result ↔ IsInRange settings.now }
 {
     1 <= settings.first
         && 1 <= settings.count
         && u32::from(settings.first) + u32::from(settings.count) <= POOL_END
         && settings.hours <= MAX_HOURS
+        && is_rate(settings.rate)
+        && is_jrc(settings.jrc)
+        && settings.refused.len() <= MOST_REFUSED
+        && are_identifiers(settings.refused.as_slice())
 }
 
-fn is_timely(entries: &[Entry], time: u64) -> bool
-    ensures { IsTrue result ↔ IsTimely entries.now time }
+/// Whether the time isn't before the last one, and fits 40 bits.
+fn is_from(last: u64, time: u64) -> bool
+    ensures { IsTrue result ↔ ((last ≤ time) × (time < 2 ^ 40)) }
 {
-    last_time(entries) <= time && time <= LATEST
+    last <= time && time <= LATEST
 }
 
-/// The pledge and the settings under which a request may be decided, where it may.
-fn deciding(
-    entries: &[Entry],
-    time: u64,
-    context: u32,
-    number: u64,
-) -> Option<(PledgeId, &Settings)>
-    requires { IsLegal entries.now }
-    ensures decides { MatchOption result
-        ((p : PledgeId) (s : Settings) → MayDecide entries.now time context number p s → ⊥)
-        (λ found. MayDecide entries.now time context number found.0 found.1.now) }
-    ensures pool { IfSome result (λ found. found.1.now.first + found.1.now.count ≤ 65534) }
+/// Whether a Block may bring this end after the old one.
+fn is_next_end(old: u64, to: u64) -> bool
+    ensures { IsTrue result ↔ ((to ≡ old + 64) × (to ≤ 2 ^ 40)) }
 {
-    let pledge = pledge_of(entries, context)?;
-    let settings = leases::current_settings(entries)?;
-    if is_timely(entries, time) && number <= LATEST && is_fresh(entries, context, number) {
-        Some((pledge, settings))
-    } else {
-        None
+    to <= NUMBER_END && to == old.saturating_add(BLOCK)
+}
+
+/// Whether the next context may have this number, where so many are enrolled.
+fn is_next_context(count: usize, context: u32) -> bool
+    ensures { IsTrue result ↔ ((context ≡ count) × (context < 32768)) }
+{
+    context < MAX_CONTEXTS && context as usize == count
+}
+
+impl RegState {
+    pub(crate) fn is_timely(&self, time: u64) -> bool
+        ensures { (h : List AnEntry) → StandsFor self.now h → IsTrue result ↔ IsTimely h time }
+    {
+        is_from(self.time, time)
     }
-}
 
-fn is_due_address(
-    entries: &[Entry],
-    settings: &Settings,
-    at: u64,
-    pledge: PledgeId,
-    address: u16,
-) -> bool
-    requires current { current_settings entries.now ≡ Some settings.now }
-    requires pool { settings.now.first + settings.now.count ≤ 65534 }
-    requires moment { at < 2 ^ 40 }
-    ensures { IsTrue result ↔ IsDueAddress entries.now at pledge address }
-{
-    due_address(entries, settings, at, pledge) == Some(address)
-}
-
-fn has_no_address(entries: &[Entry], settings: &Settings, at: u64, pledge: PledgeId) -> bool
-    requires current { current_settings entries.now ≡ Some settings.now }
-    requires pool { settings.now.first + settings.now.count ≤ 65534 }
-    requires moment { at < 2 ^ 40 }
-    ensures { IsTrue result ↔ HasNoAddress entries.now at pledge }
-{
-    due_address(entries, settings, at, pledge).is_none()
-}
-
-fn may_grant(
-    entries: &[Entry],
-    time: u64,
-    context: u32,
-    number: u64,
-    address: u16,
-    until: u64,
-) -> bool
-    requires { IsLegal entries.now }
-    ensures { IsTrue result ↔ MayFollow entries.now (Grant time context number address until) }
-{
-    match deciding(entries, time, context, number) {
-        Some((pledge, settings)) => {
-            until == lease_end(time, settings.hours)
-                && is_due_address(entries, settings, time, pledge, address)
-        }
-        None => false,
-    }
-}
-
-fn is_true_reason(
-    entries: &[Entry],
-    settings: &Settings,
-    at: u64,
-    pledge: PledgeId,
-    why: Refusal,
-) -> bool
-    requires current { current_settings entries.now ≡ Some settings.now }
-    requires pool { settings.now.first + settings.now.count ≤ 65534 }
-    requires moment { at < 2 ^ 40 }
-    ensures { IsTrue result ↔ IsTrueReason entries.now at pledge why }
-{
-    match why {
-        Refusal::NoAddress => has_no_address(entries, settings, at, pledge),
-        _ => why.is_reason(),
-    }
-}
-
-fn may_refuse(entries: &[Entry], time: u64, context: u32, number: u64, why: Refusal) -> bool
-    requires { IsLegal entries.now }
-    ensures { IsTrue result ↔ MayFollow entries.now (Refuse time context number why) }
-{
-    match deciding(entries, time, context, number) {
-        Some((pledge, settings)) => is_true_reason(entries, settings, time, pledge, why),
-        None => false,
-    }
-}
-
-fn may_block(entries: &[Entry], context: u32, to: u64) -> bool
-    requires { IsLegal entries.now }
-    ensures { IsTrue result ↔ MayFollow entries.now (Block context to) }
-{
-    pledge_of(entries, context).is_some()
-        && to <= NUMBER_END
-        && to == block_end(entries, context).saturating_add(BLOCK)
-}
-
-/// Whether the keys of the epoch are being handed out at this time.
-fn is_handed_out(entries: &[Entry], time: u64, epoch: u32) -> bool
-    ensures { IsTrue result ↔ (IsTimely entries.now time × IsSpreading (phase entries.now) epoch) }
-{
-    is_timely(entries, time) && is_spreading(&phases::phase(entries), epoch)
-}
-
-/// Whether the pledge is live and hasn't the keys that are being handed out.
-fn lacks(entries: &[Entry], time: u64, pledge: PledgeId, epoch: u32) -> bool
-    ensures { IsTrue result ↔ Lacks entries.now time pledge epoch }
-{
-    is_timely(entries, time)
-        && is_spreading(&phases::phase(entries), epoch)
-        && is_live(entries, time, pledge)
-        && !has(entries, pledge, epoch)
-}
-
-fn may_give(entries: &[Entry], time: u64, context: u32, number: u64, epoch: u32) -> bool
-    ensures { IsTrue result ↔ MayFollow entries.now (Given time context number epoch) }
-{
-    match pledge_of(entries, context) {
-        Some(pledge) => {
-            lacks(entries, time, pledge, epoch) && number < block_end(entries, context)
-        }
-        None => false,
-    }
-}
-
-fn may_be_stale(entries: &[Entry], time: u64, pledge: PledgeId, epoch: u32) -> bool
-    ensures { IsTrue result ↔ MayFollow entries.now (Stale time pledge epoch) }
-{
-    lacks(entries, time, pledge, epoch) && !is_stale_for(entries, pledge, epoch)
-}
-
-/// Whether the pledge has the keys of the epoch or is stale for it.
-fn is_current(entries: &[Entry], pledge: PledgeId, epoch: u32) -> bool
-    ensures { IsTrue result ↔ (Has entries.now pledge epoch ⊎ IsStaleFor entries.now pledge epoch) }
-{
-    has(entries, pledge, epoch) || is_stale_for(entries, pledge, epoch)
-}
-
-/// Whether a Switch needn't wait for the pledge.
-fn is_served(entries: &[Entry], pledge: PledgeId, time: u64, epoch: u32) -> bool
-    ensures { IsTrue result ↔ IsServed entries.now time epoch pledge }
-{
-    !is_live(entries, time, pledge) || is_current(entries, pledge, epoch)
-}
-
-fn is_ready(entries: &[Entry], entry: &Entry, time: u64, epoch: u32) -> bool
-    ensures { IsTrue result ↔ IsReady entries.now time epoch entry.now }
-{
-    match entry {
-        Entry::Grant { context, .. } => match pledge_of(entries, *context) {
-            Some(pledge) => is_served(entries, pledge, time, epoch),
+    /// Whether the number is fresh.
+    fn is_fresh(&self, context: u32, number: u64) -> bool
+        ensures { (h : List AnEntry) → StandsFor self.now h → IsTrue result ↔ IsFresh h context number }
+    {
+        match self.row(context) {
             None => true,
-        },
-        _ => true,
+            Some(row) => match row.judge(number) {
+                Judged::Fresh => true,
+                Judged::Taken => false,
+                Judged::Old => false,
+            },
+        }
     }
-}
 
-fn all_ready(entries: &[Entry], time: u64, epoch: u32) -> bool
-    ensures { IsTrue result ↔ All (IsReady entries.now time epoch) entries.now }
-{
-    entries
-        .iter()
-        .all(|entry| is_ready(entries, entry, time, epoch))
-}
-
-/// Whether a Switch needn't wait for any pledge.
-fn are_served(entries: &[Entry], time: u64, epoch: u32) -> bool
-    ensures { IsTrue result ↔ ((p : PledgeId) → IsServed entries.now time epoch p) }
-{
-    all_ready(entries, time, epoch)
-}
-
-fn may_switch(entries: &[Entry], time: u64, epoch: u32) -> bool
-    ensures { IsTrue result ↔ MayFollow entries.now (Switch time epoch) }
-{
-    is_handed_out(entries, time, epoch) && are_served(entries, time, epoch)
-}
-
-#[tactic(auto, unfolding(crate::specs::Scans::IsAged))]
-fn is_aged(entries: &[Entry], entry: &Entry, pledge: PledgeId, time: u64) -> bool
-    ensures { IsTrue result ↔ IsAged entries.now pledge time entry.now }
-{
-    match entry {
-        Entry::Grant {
-            time: made,
-            context,
-            ..
+    /// The pledge and the settings under which a request may be decided, where it may.
+    fn deciding(&self, time: u64, context: u32, number: u64) -> Option<(PledgeId, &Settings)>
+        requires { IsSome self.now }
+        ensures decides { (h : List AnEntry) → StandsFor self.now h → MatchOption result
+            ((p : Id) (s : ASettings) → MayDecide h time context number p s → ⊥)
+            (λ found. MayDecide h time context number found.0 found.1.now) }
+        ensures pool { IfSome result (λ found. (1 ≤ found.1.now.first) × (found.1.now.first + found.1.now.count ≤ 65534)) }
+        ensures moment { IfSome result (λ found. (time < 2 ^ 40) × IsNow self.now time) }
+    {
+        let pledge = self.pledge_of(context)?;
+        let settings = self.settings()?;
+        if self.is_timely(time) && number <= LATEST && self.is_fresh(context, number) {
+            Some((pledge, settings))
+        } else {
+            None
         }
-        | Entry::Refuse {
-            time: made,
-            context,
-            ..
-        } => {
-            pledge_of(entries, *context) != Some(pledge) || made.saturating_add(REPEAT_SPAN) < time
-        }
-        _ => true,
     }
-}
 
-fn all_aged(entries: &[Entry], pledge: PledgeId, time: u64) -> bool
-    ensures { IsTrue result ↔ All (IsAged entries.now pledge time) entries.now }
-{
-    entries
-        .iter()
-        .all(|entry| is_aged(entries, entry, pledge, time))
-}
+    fn is_due_address(&self, settings: &Settings, at: u64, pledge: PledgeId, address: u16) -> bool
+        requires current { (h : List AnEntry) → StandsFor self.now h → current_settings h ≡ Some settings.now }
+        requires pool { (1 ≤ settings.now.first) × (settings.now.first + settings.now.count ≤ 65534) }
+        requires moment { IsNow self.now at }
+        ensures { (h : List AnEntry) → StandsFor self.now h → IsTrue result ↔ IsDueAddress h at pledge address }
+    {
+        self.due_address(settings, at, pledge) == Some(address)
+    }
 
-/// Whether no answer to the pledge may still be on its way.
-fn are_aged(entries: &[Entry], pledge: PledgeId, time: u64) -> bool
-    ensures { IsTrue result ↔ ((e : Entry) → Contains entries.now e → IsDecisionFor entries.now pledge e → HasAged e time) }
-{
-    all_aged(entries, pledge, time)
-}
+    fn has_no_address(&self, settings: &Settings, at: u64, pledge: PledgeId) -> bool
+        requires current { (h : List AnEntry) → StandsFor self.now h → current_settings h ≡ Some settings.now }
+        requires pool { (1 ≤ settings.now.first) × (settings.now.first + settings.now.count ≤ 65534) }
+        requires moment { IsNow self.now at }
+        ensures { (h : List AnEntry) → StandsFor self.now h → IsTrue result ↔ HasNoAddress h at pledge }
+    {
+        self.due_address(settings, at, pledge).is_none()
+    }
 
-fn may_release(entries: &[Entry], time: u64, pledge: PledgeId) -> bool
-    ensures { IsTrue result ↔ MayFollow entries.now (Release time pledge) }
-{
-    is_timely(entries, time) && holds_some(entries, time, pledge) && are_aged(entries, pledge, time)
-}
-
-/// Whether the entry may follow the entries.
-pub fn may_follow(entries: &[Entry], entry: &Entry) -> bool
-    requires { IsLegal entries.now }
-    ensures { IsTrue result ↔ MayFollow entries.now entry.now }
-{
-    match entry {
-        Entry::Settings { time, settings } => is_timely(entries, *time) && is_in_range(settings),
-        Entry::Enroll { context, check, .. } => {
-            *context < MAX_CONTEXTS
-                && *context as usize == context_count(entries)
-                && !has_check(entries, check)
+    pub(crate) fn may_grant(
+        &self,
+        time: u64,
+        context: u32,
+        number: u64,
+        address: u16,
+        until: u64,
+    ) -> bool
+        requires { IsSome self.now }
+        ensures { (h : List AnEntry) → StandsFor self.now h → IsTrue result ↔ MayFollow h (Grant time context number address until) }
+    {
+        match self.deciding(time, context, number) {
+            Some((pledge, settings)) => {
+                until == lease_end(time, settings.hours)
+                    && self.is_due_address(settings, time, pledge, address)
+            }
+            None => false,
         }
-        Entry::Grant {
-            time,
-            context,
-            number,
-            address,
-            until,
-        } => { may_grant(entries, *time, *context, *number, *address, *until) }
-        Entry::Refuse {
-            time,
-            context,
-            number,
-            why,
-        } => { may_refuse(entries, *time, *context, *number, *why) }
-        Entry::Block { context, to } => may_block(entries, *context, *to),
-        Entry::Roll { time, set } => {
-            is_timely(entries, *time) && is_next_set(&phases::phase(entries), set)
+    }
+
+    fn is_true_reason(&self, settings: &Settings, at: u64, pledge: PledgeId, why: Refusal) -> bool
+        requires current { (h : List AnEntry) → StandsFor self.now h → current_settings h ≡ Some settings.now }
+        requires pool { (1 ≤ settings.now.first) × (settings.now.first + settings.now.count ≤ 65534) }
+        requires moment { IsNow self.now at }
+        ensures { (h : List AnEntry) → StandsFor self.now h → IsTrue result ↔ IsTrueReason h at pledge why }
+    {
+        match why {
+            Refusal::NoAddress => self.has_no_address(settings, at, pledge),
+            _ => why.is_reason(),
         }
-        Entry::Given {
-            time,
-            context,
-            number,
-            epoch,
-        } => may_give(entries, *time, *context, *number, *epoch),
-        Entry::Stale { time, id, epoch } => may_be_stale(entries, *time, *id, *epoch),
-        Entry::Switch { time, epoch } => may_switch(entries, *time, *epoch),
-        Entry::Release { time, id } => may_release(entries, *time, *id),
+    }
+
+    pub(crate) fn may_refuse(&self, time: u64, context: u32, number: u64, why: Refusal) -> bool
+        requires { IsSome self.now }
+        ensures { (h : List AnEntry) → StandsFor self.now h → IsTrue result ↔ MayFollow h (Refuse time context number why) }
+    {
+        match self.deciding(time, context, number) {
+            Some((pledge, settings)) => self.is_true_reason(settings, time, pledge, why),
+            None => false,
+        }
+    }
+
+    pub(crate) fn may_block(&self, context: u32, to: u64) -> bool
+        ensures { (h : List AnEntry) → StandsFor self.now h → IsTrue result ↔ MayFollow h (Block context to) }
+    {
+        match self.row(context) {
+            None => false,
+            Some(row) => is_next_end(row.end, to),
+        }
+    }
+
+    pub(crate) fn may_enroll(&self, context: u32, id: PledgeId, check: &[u8; 32]) -> bool
+        ensures { (h : List AnEntry) → StandsFor self.now h → IsTrue result ↔ MayFollow h (Enroll context id check.now) }
+    {
+        is_next_context(self.contexts.len(), context) && self.is_new_check(check)
+    }
+
+    /// Whether no context has the check.
+    fn is_new_check(&self, check: &[u8; 32]) -> bool
+        ensures { (h : List AnEntry) → StandsFor self.now h → IsTrue result ↔ (HasCheck h check.now → ⊥) }
+    {
+        self.contexts.find(check).is_none()
     }
 }

@@ -1,21 +1,25 @@
-// The state of the registrar: the plain program of the definitions, which keeps the list of entries and scans it.
+// The state of the registrar: what a summary knows of a history, with the indices that answers need.
 // It promises the layer above the answers of every history that the state stands for, and takes no memory once made.
 // The definitions are those of join_history; the one relation between a state and a history is in specs/: State.
 #![tactic(auto)]
 
-mod blocks;
+mod answer;
+mod apply;
 mod contexts;
-mod decisions;
 mod due;
-mod epochs;
+mod follow;
+mod keys;
 mod last;
-mod leases;
 mod legal;
 mod opening;
-mod phases;
+mod pledges;
+mod reads;
+mod restore;
 mod room;
 mod state;
+mod summary;
 mod times;
+mod updates;
 
 pub use join_history::{Due, Quiet, Want, history_laws};
 pub use last::Last;

@@ -5,3 +5,4 @@ pub mod ContextLemmas
 pub mod AnswerLemmas
 pub mod RunLemmas
 pub mod StartLemmas
+pub mod IdLemmas

@@ -7,30 +7,23 @@ ghost use Rattle.journal_text.specs.declared.entry.Entry.TheVariants.{Enroll};
 ghost use Rattle.registrar_book.specs.Books.{log_of, durable_of, book_disk};
 ghost use Rattle.tool_text.specs.declared.line.Line.TheVariants.{Ask};
 ghost use Rattle.registrar_tool.specs.Told.{Standing, IsAnswered, IsTold, decide_check, granted_of, again_of};
-ghost use Rattle.registrar_tool.specs.Opened.{HasIdContext, IsListedAt, IsReady, AreAskable, standing_of};
+ghost use Rattle.registrar_tool.specs.Opened.{HasIdContext, IsReady, AreAskable, standing_of};
 ghost use Rattle.registrar_tool.specs.Run.{AreDone, AreCutShort};
 ghost use Rattle.registrar_tool.specs.Lines.{IsLineDone, IsLineCut};
 
+use crate::ids::Ids;
 use edge_traits::{Disk, Failed, PledgeId, Sink};
 use registrar_book::{Book, Decided};
 use registrar_state::{Last, Want};
 use tool_text::{Line, Outcome, write_outcome};
 
-/// The place of an identifier.
-fn place_of(ids: &[PledgeId], id: PledgeId) -> Option<usize>
-    ensures found { IfSome result (IsListedAt ids.now id) }
-    ensures none { IfNone result (Contains ids.now id → ⊥) }
-{
-    ids.iter().position(|known| *known == id)
-}
-
 /// The context of an identifier.
-fn context_of(ids: &[PledgeId], contexts: &[u32], id: PledgeId) -> Option<u32>
+fn context_of(ids: &Ids, contexts: &[u32], id: PledgeId) -> Option<u32>
     requires { length ids.now ≡ length contexts.now }
     ensures found { IfSome result (λ context. (h : List Entry) → AllZip (HasIdContext h) ids.now contexts.now → HasIdContext h id context) }
     ensures none { IfNone result (Contains ids.now id → ⊥) }
 {
-    let Some(place) = place_of(ids, id) else {
+    let Some(place) = ids.find(id) else {
         return None;
     };
     Some(contexts[place])
@@ -59,7 +52,7 @@ fn again_outcome(last: Last) -> Outcome
 /// Decides one request, and answers its outcome.
 fn decide_ask<D: Disk>(
     book: &mut Book<D>,
-    ids: &[PledgeId],
+    ids: &Ids,
     contexts: &[u32],
     time: u64,
     id: PledgeId,
@@ -86,7 +79,7 @@ fn decide_ask<D: Disk>(
 /// Does one line, and writes its outcome.
 fn decide_line<K: Sink, D: Disk>(
     book: &mut Book<D>,
-    ids: &[PledgeId],
+    ids: &Ids,
     contexts: &[u32],
     line: &Line,
     out: &mut K,
@@ -111,7 +104,7 @@ fn decide_line<K: Sink, D: Disk>(
 /// Does the lines in order, and writes the outcome of each before the next one is done.
 pub(crate) fn decide_lines<K: Sink, D: Disk>(
     book: &mut Book<D>,
-    ids: &[PledgeId],
+    ids: &Ids,
     contexts: &[u32],
     lines: &[Line],
     out: &mut K,

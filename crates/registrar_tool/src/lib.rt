@@ -4,6 +4,7 @@
 #![tactic(auto)]
 
 mod decide;
+mod ids;
 mod opening;
 mod script;
 mod status;

@@ -20,10 +20,11 @@ ghost use Rattle.registrar_book.specs.Books.{log_of, durable_of, book_disk};
 
 use crate::Status;
 use crate::decide::decide_lines;
+use crate::ids::Ids;
 use crate::opening::{list_ids, rows_of};
 use crate::script::{ReadError, read_lines, read_script};
 use crate::words::{Command, read_words};
-use edge_traits::{Disk, Failed, PledgeId, Sink, Source};
+use edge_traits::{Disk, Failed, Sink, Source};
 use journal_store::{Journal, StoreFault};
 use journal_text::Settings;
 use registrar_book::{Book, OpenFault};
@@ -232,7 +233,7 @@ fn decide_script<K: Sink, D: Disk>(
     let Ok(ids) = list_ids(alloc, &lines) else {
         return (disk, Status::NoMemory);
     };
-    let Ok(rows) = rows_of(alloc, &ids) else {
+    let Ok(rows) = rows_of(alloc, ids.all()) else {
         return (disk, Status::NoMemory);
     };
     let opening = Opening { settings, rows };
@@ -251,7 +252,7 @@ fn decide_script<K: Sink, D: Disk>(
 /// Decides the lines on a book, and closes it.
 fn decide_on<K: Sink, D: Disk>(
     book: Book<D>,
-    ids: &[PledgeId],
+    ids: &Ids,
     contexts: &[u32],
     lines: &[Line],
     out: &mut K,

@@ -111,6 +111,15 @@ impl Holders {
         self.set(id, Epochs { has, stale: epoch });
     }
 
+    /// Puts in the epochs of a pledge that were kept elsewhere, 0 where there is none. There is room
+    /// where the pledge is new.
+    pub fn restore(&mut self, id: PledgeId, has: u32, stale: u32)
+        requires { known_of self.old id ≡ None → 0 < self.old.room }
+        ensures { Sets id (record { has = has; stale = stale }) self.old self.new }
+    {
+        self.set(id, Epochs { has, stale });
+    }
+
     fn set(&mut self, id: PledgeId, epochs: Epochs)
         requires { known_of self.old id ≡ None → 0 < self.old.room }
         ensures { Sets id epochs self.old self.new }

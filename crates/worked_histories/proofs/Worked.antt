@@ -19,7 +19,7 @@ use Rattle.join_history.specs.Legal.{IsLegal, IsInRange, IsTimely, HasAged}
 use Rattle.join_history.specs.Answers.{grant_answer}
 use Rattle.join_history.specs.Updates.{update_message, IsFirstWaiting}
 use Rattle.join_history.specs.Opening.{AddsSettings, EnrollsRows, IsOpened}
-use Rattle.join_history.specs.Examples.{a1, pool, set_of, enrolled, granted, spreading, given, AddressIsHeld, Updates, Answered}
+use Rattle.join_history.specs.Examples.{a1, pool, single, enrolled, granted, spreading, given, AddressIsHeld, Updates, Answered}
 use Rattle.join_history.proofs.ListLemmas.{Contains-middle}
 use Rattle.join_history.proofs.LastLemmas.{IsLast-contains}
 use Rattle.join_history.proofs.LegalLemmas.{IsLegal-push}
@@ -237,13 +237,13 @@ unfolding update_message number string array map
 more_keys known answered = record {
   granted_after_roll = inl (record {
     before = SettingsEntry 0 (pool 1 2 1) ∷ Enroll 0 a1 [] ∷ [];
-    roll = Roll 0 (set_of 1 ([] ∷ []));
+    roll = Roll 0 (single 1);
     after = Grant 1 0 0 1 3601 ∷ [];
     place = refl;
     is_roll = refl;
     granted = (0, Grant 1 0 0 1 3601, omega arith, refl, refl);
   });
-  update = (set_of 1 ([] ∷ []), set_of 2 ([] ∷ []), 1, refl, refl, refl, refl);
+  update = (single 1, single 2, 1, refl, refl, refl, refl);
   waits = first_waiting known;
   switch_after_given = (
     record { not_before = omega arith; fits = omega arith },

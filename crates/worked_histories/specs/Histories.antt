@@ -18,7 +18,7 @@ use Rattle.join_history.specs.Answers.{grant_answer, refusal_answer, IsAnswer}
 use Rattle.join_history.specs.Epochs.{Has}
 use Rattle.join_history.specs.Opening.{IsOpened}
 use Rattle.join_history.specs.Updates.{IsUpdate, IsFirstWaiting}
-use Rattle.join_history.specs.Examples.{a1, pool, set_of, enrolled, granted, spreading, given}
+use Rattle.join_history.specs.Examples.{a1, pool, zeros, single, enrolled, granted, spreading, given}
 
 -- opening adds to a history, which stays legal
 pub record Openings : Type 0 where
@@ -52,8 +52,8 @@ pub record MoreAnswers : Type 0 where
 
 -- who has the keys of an epoch, which update brings them, and who waits for it
 pub record MoreKeys : Type 0 where
-  pub granted_after_roll : Has (SettingsEntry 0 (pool 1 2 1) ∷ Enroll 0 a1 [] ∷ Roll 0 (set_of 1 ([] ∷ [])) ∷ Grant 1 0 0 1 3601 ∷ []) a1 1
-  pub update : IsUpdate spreading 2 (2 ∷ 177 ∷ 106 ∷ 255 ∷ 161 ∷ 2 ∷ 132 ∷ 5 ∷ 64 ∷ 9 ∷ 64 ∷ [])
+  pub granted_after_roll : Has (SettingsEntry 0 (pool 1 2 1) ∷ Enroll 0 a1 [] ∷ Roll 0 (single 1) ∷ Grant 1 0 0 1 3601 ∷ []) a1 1
+  pub update : IsUpdate spreading 2 (2 ∷ 177 ∷ 106 ∷ 255 ∷ 161 ∷ 2 ∷ 132 ∷ 5 ∷ 80 ∷ zeros ++ 9 ∷ 80 ∷ zeros)
   pub waits : IsFirstWaiting spreading 3 a1
   pub switch_after_given : MayFollow given (Switch 4 2)
   pub switch_after_stale : MayFollow (spreading ++ Stale 3 a1 2 ∷ []) (Switch 4 2)

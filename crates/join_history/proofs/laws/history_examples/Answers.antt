@@ -23,6 +23,9 @@ returns-clause-contexts c = example.contexts
 pub returns-clause-pools : goal.returns-clause-pools
 returns-clause-pools c = example.pools
 
+pub returns-clause-widths : goal.returns-clause-widths
+returns-clause-widths c = example.widths
+
 pub returns-clause-below : goal.returns-clause-below
 returns-clause-below c = example.below
 

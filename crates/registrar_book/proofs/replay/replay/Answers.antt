@@ -5,7 +5,7 @@ use Rattle.journal_text.specs.declared.entry.Entry.{Entry}
 use Rattle.join_history.specs.Contexts.{context_count}
 use Rattle.registrar_state.specs.State.{StandsFor, spare}
 use Rattle.registrar_state.proofs.StateLemmas.{IsLegal-stands}
-use Rattle.registrar_book.proofs.Contexts.{not_true, room_more, most_room}
+use Rattle.registrar_book.proofs.Contexts.{not_true, room_more, most_room, has_room}
 use Rattle.registrar_book.proofs.replay.replay.Goals as goal
 
 pub returns-then-not-may_follow-clause-err : goal.returns-then-not-may_follow-clause-err
@@ -24,6 +24,15 @@ returns-then-not-may_follow-clause-err c settings rows now =
       refused = λ may. not_true c.may_follow.result c.if-not-may_follow.true ((c.may_follow.ensures front c.loop-index.invariant.stands).1 may);
       told = sym (length-take-le i log (omega (arith, c.loop-index-test.true)));
     }
+
+pub apply-requires-clause-room : goal.apply-requires-clause-room
+apply-requires-clause-room c =
+    let at = c.loop-index.invariant in
+    let i = c.loop-index.index in
+    let short = at.short in
+    let within = c.loop-index-test.true in
+    let may = (c.may_follow.ensures (take i c.args.log.now) at.stands).0 c.if-not-may_follow.false in
+    has_room (spare c.loop-index.state) c.index-log-index.result (take i c.args.log.now) may at.contexts (omega (arith, short, within))
 
 pub loop-index-preserved : goal.loop-index-preserved
 loop-index-preserved c =

@@ -16,7 +16,7 @@ returns-in-Err-clause-same_key c =
     let i = c.loop-row.row-index in
     let row = get_or rows i no_row in
     let is : get_or rows i row ≡ row = sym (get_or_default rows i no_row row c.loop-row-test.true) in
-    rows_cause c.args.known.now.items rows c.loop-row.known.items c.loop-row.contexts.items i row c.in-Err.fault c.loop-row-test.true is c.loop-row.invariant.placed c.in-Err.ensures.same_key
+    rows_cause c.args.known.now rows c.loop-row.known c.loop-row.contexts.items i row c.in-Err.fault c.loop-row-test.true is c.loop-row.invariant.placed c.in-Err.ensures.same_key
 
 pub loop-row-preserved : goal.loop-row-preserved
 unfolding no_row
@@ -26,6 +26,6 @@ loop-row-preserved c =
     let row = get_or rows i no_row in
     let is : get_or rows i row ≡ row = sym (get_or_default rows i no_row row c.loop-row-test.true) in
     let made = c.in-Ok.ensures.placed in
-    let more = places_more c.args.known.now.items rows c.loop-row.known.items c.place_row.new.known.items c.loop-row.contexts.items i c.in-Ok.context row c.loop-row-test.true is c.loop-row.invariant.placed made.0
+    let more = places_more c.args.known.now rows c.loop-row.known c.place_row.new.known c.loop-row.contexts.items i c.in-Ok.context row c.loop-row-test.true is c.loop-row.invariant.placed made.0
     (made.1.0, made.1.1) in
-    record { placed = subst (λ (l : List ℕ). ArePlaced c.args.known.now.items rows c.place_row.new.known.items l (i + 1)) (sym c.in_ok-push-in-Ok.ensures.items) more }
+    record { placed = subst (λ (l : List ℕ). ArePlaced c.args.known.now rows c.place_row.new.known l (i + 1)) (sym c.in_ok-push-in-Ok.ensures.items) more }

@@ -40,9 +40,9 @@ back fault.NoMemory = refl
 pub returns-in-Err-clause-not_opened : goal.returns-in-Err-clause-not_opened
 returns-in-Err-clause-not_opened g c why is some =
     let lines = c.in-Ok.lines.items in
-    let ids = c.in-Ok-list_ids.ids.items in
+    let ids = c.in-Ok-list_ids.ids in
     let listed : ListsOnce [] lines ids = subst (λ (ls : List Line). ListsOnce [] ls ids) c.deref.ensures.value c.in-Ok-list_ids.ensures.listed in
-    let rows : c.in-Ok-rows_of.rows.items ≡ map decide_row ids = c.in-Ok-rows_of.ensures ∙ ap (λ (l : List PledgeId). map decide_row l) c.deref-2.ensures.value in
+    let rows : c.in-Ok-rows_of.rows.items ≡ map decide_row ids = c.in-Ok-rows_of.ensures ∙ ap (λ (l : List PledgeId). map decide_row l) c.all.ensures in
     let same : c.in-Err.fault ≡ why = sym (back c.in-Err.fault) ∙ ap fault_of (sym c.status_of.ensures ∙ is) ∙ back why in
     let old = c.args.disk in
     subst (λ (w : OpenFault). IsNotOpened g.D.Disk old c.in-Err.disk c.args.settings c.args.bytes.now w) same (record {
@@ -58,29 +58,27 @@ returns-in-Err-clause-not_opened g c why is some =
 pub decide_on-disk-requires-clause-askable : goal.decide_on-disk-requires-clause-askable
 decide_on-disk-requires-clause-askable g c =
     let lines = c.in-Ok.lines.items in
-    let ids = c.in-Ok-list_ids.ids.items in
+    let ids = c.in-Ok-list_ids.ids in
     let listed : ListsOnce [] lines ids = subst (λ (ls : List Line). ListsOnce [] ls ids) c.deref.ensures.value c.in-Ok-list_ids.ensures.listed in
     let good = AreGoodLines-read script_limit c.args.bytes.now lines c.in-Ok.wrong c.in-Ok.ensures.lines in
-    subst (λ (is : List PledgeId). AreAskable is c.deref-5.result.now) (sym c.deref-3.ensures.value)
-    (subst (AreAskable ids) (sym c.deref-5.ensures.value) (AreAskable-read script_limit c.args.bytes.now lines ids good listed))
+    subst (AreAskable ids) (sym c.deref-3.ensures.value) (AreAskable-read script_limit c.args.bytes.now lines ids good listed)
 
 pub decide_on-disk-requires-clause-ready : goal.decide_on-disk-requires-clause-ready
 decide_on-disk-requires-clause-ready g c =
-    let ids = c.in-Ok-list_ids.ids.items in
-    let rows : c.in-Ok-rows_of.rows.items ≡ map decide_row ids = c.in-Ok-rows_of.ensures ∙ ap (λ (l : List PledgeId). map decide_row l) c.deref-2.ensures.value in
+    let ids = c.in-Ok-list_ids.ids in
+    let rows : c.in-Ok-rows_of.rows.items ≡ map decide_row ids = c.in-Ok-rows_of.ensures ∙ ap (λ (l : List PledgeId). map decide_row l) c.all.ensures in
     let opened = subst (λ (r : List Row). IsOpenOn c.args.disk c.args.settings r None c.in-Ok-start.opened.0 c.in-Ok-start.opened.1.items) rows c.in-Ok-start.ensures.opened in
     let ready = is_ready c.args.disk c.args.settings ids c.in-Ok-start.opened.0 c.in-Ok-start.opened.1.items opened c.in-Ok-start.ensures.kept c.in-Ok-start.ensures.tells c.in-Ok-start.ensures.counted in
-    subst (λ (is : List PledgeId). IsReady c.in-Ok-start.opened.0 is c.deref-4.result.now) (sym c.deref-3.ensures.value)
-    (subst (λ (cs : List ℕ). IsReady c.in-Ok-start.opened.0 ids cs) (sym c.deref-4.ensures.value) ready)
+    subst (λ (cs : List ℕ). IsReady c.in-Ok-start.opened.0 ids cs) (sym c.deref-2.ensures.value) ready
 
 pub returns-in-Err-default-clause-write_fault : goal.returns-in-Err-default-clause-write_fault
 returns-in-Err-default-clause-write_fault g c f is =
     let lines = c.in-Ok.lines.items in
-    let ids = c.in-Ok-list_ids.ids.items in
+    let ids = c.in-Ok-list_ids.ids in
     let listed : ListsOnce [] lines ids = subst (λ (ls : List Line). ListsOnce [] ls ids) c.deref.ensures.value c.in-Ok-list_ids.ensures.listed in
-    let rows : c.in-Ok-rows_of.rows.items ≡ map decide_row ids = c.in-Ok-rows_of.ensures ∙ ap (λ (l : List PledgeId). map decide_row l) c.deref-2.ensures.value in
+    let rows : c.in-Ok-rows_of.rows.items ≡ map decide_row ids = c.in-Ok-rows_of.ensures ∙ ap (λ (l : List PledgeId). map decide_row l) c.all.ensures in
     let opened = subst (λ (r : List Row). IsOpenOn c.args.disk c.args.settings r None c.in-Ok-start.opened.0 c.in-Ok-start.opened.1.items) rows c.in-Ok-start.ensures.opened in
-    let cut = subst (λ (ls : List Line). AreCutShort g.D.Disk (standing_of c.in-Ok-start.opened.0) ls (g.K.Sink.written c.args.out.now) (g.K.Sink.written c.decide_on-disk.new.out) c.decide_on-disk.result.0) c.deref-5.ensures.value
+    let cut = subst (λ (ls : List Line). AreCutShort g.D.Disk (standing_of c.in-Ok-start.opened.0) ls (g.K.Sink.written c.args.out.now) (g.K.Sink.written c.decide_on-disk.new.out) c.decide_on-disk.result.0) c.deref-3.ensures.value
     (rw c.in-Err-default.is-0 at c.decide_on-disk.ensures.cut) in
     is_cut c.args.disk c.args.settings ids c.in-Ok-start.opened.0 c.in-Ok-start.opened.1.items opened c.in-Ok-start.ensures.kept c.in-Ok-start.ensures.tells c.in-Ok-start.ensures.counted c.args.bytes.now lines listed
     (g.K.Sink.written c.args.out.now) (g.K.Sink.written c.decide_on-disk.new.out) c.decide_on-disk.result.0
@@ -90,11 +88,11 @@ returns-in-Err-default-clause-write_fault g c f is =
 pub returns-in-Ok-Some-clause-bad_script : goal.returns-in-Ok-Some-clause-bad_script
 returns-in-Ok-Some-clause-bad_script g c k is =
     let lines = c.in-Ok.lines.items in
-    let ids = c.in-Ok-list_ids.ids.items in
+    let ids = c.in-Ok-list_ids.ids in
     let listed : ListsOnce [] lines ids = subst (λ (ls : List Line). ListsOnce [] ls ids) c.deref.ensures.value c.in-Ok-list_ids.ensures.listed in
-    let rows : c.in-Ok-rows_of.rows.items ≡ map decide_row ids = c.in-Ok-rows_of.ensures ∙ ap (λ (l : List PledgeId). map decide_row l) c.deref-2.ensures.value in
+    let rows : c.in-Ok-rows_of.rows.items ≡ map decide_row ids = c.in-Ok-rows_of.ensures ∙ ap (λ (l : List PledgeId). map decide_row l) c.all.ensures in
     let opened = subst (λ (r : List Row). IsOpenOn c.args.disk c.args.settings r None c.in-Ok-start.opened.0 c.in-Ok-start.opened.1.items) rows c.in-Ok-start.ensures.opened in
-    let done = subst (λ (ls : List Line). AreDone g.D.Disk (standing_of c.in-Ok-start.opened.0) ls (g.K.Sink.written c.args.out.now) (g.K.Sink.written c.decide_on-disk.new.out) c.decide_on-disk.result.0) c.deref-5.ensures.value
+    let done = subst (λ (ls : List Line). AreDone g.D.Disk (standing_of c.in-Ok-start.opened.0) ls (g.K.Sink.written c.args.out.now) (g.K.Sink.written c.decide_on-disk.new.out) c.decide_on-disk.result.0) c.deref-3.ensures.value
     (rw c.in-Ok-Some.is-0 at c.decide_on-disk.ensures.done) in
     let wrong = rw c.in-Ok-Some.is-1 at c.in-Ok.ensures.lines in
     is_wrong_from c.args.disk c.args.settings ids c.in-Ok-start.opened.0 c.in-Ok-start.opened.1.items opened c.in-Ok-start.ensures.kept c.in-Ok-start.ensures.tells c.in-Ok-start.ensures.counted c.args.bytes.now lines listed
@@ -105,11 +103,11 @@ returns-in-Ok-Some-clause-bad_script g c k is =
 pub returns-clause-done : goal.returns-clause-done
 returns-clause-done g c is =
     let lines = c.in-Ok.lines.items in
-    let ids = c.in-Ok-list_ids.ids.items in
+    let ids = c.in-Ok-list_ids.ids in
     let listed : ListsOnce [] lines ids = subst (λ (ls : List Line). ListsOnce [] ls ids) c.deref.ensures.value c.in-Ok-list_ids.ensures.listed in
-    let rows : c.in-Ok-rows_of.rows.items ≡ map decide_row ids = c.in-Ok-rows_of.ensures ∙ ap (λ (l : List PledgeId). map decide_row l) c.deref-2.ensures.value in
+    let rows : c.in-Ok-rows_of.rows.items ≡ map decide_row ids = c.in-Ok-rows_of.ensures ∙ ap (λ (l : List PledgeId). map decide_row l) c.all.ensures in
     let opened = subst (λ (r : List Row). IsOpenOn c.args.disk c.args.settings r None c.in-Ok-start.opened.0 c.in-Ok-start.opened.1.items) rows c.in-Ok-start.ensures.opened in
-    let done = subst (λ (ls : List Line). AreDone g.D.Disk (standing_of c.in-Ok-start.opened.0) ls (g.K.Sink.written c.args.out.now) (g.K.Sink.written c.decide_on-disk.new.out) c.decide_on-disk.result.0) c.deref-5.ensures.value
+    let done = subst (λ (ls : List Line). AreDone g.D.Disk (standing_of c.in-Ok-start.opened.0) ls (g.K.Sink.written c.args.out.now) (g.K.Sink.written c.decide_on-disk.new.out) c.decide_on-disk.result.0) c.deref-3.ensures.value
     (rw c.in-Ok-None.is-0 at c.decide_on-disk.ensures.done) in
     let script = rw c.in-Ok-None.is-1 at c.in-Ok.ensures.lines in
     is_whole c.args.disk c.args.settings ids c.in-Ok-start.opened.0 c.in-Ok-start.opened.1.items opened c.in-Ok-start.ensures.kept c.in-Ok-start.ensures.tells c.in-Ok-start.ensures.counted c.args.bytes.now lines listed

@@ -8,13 +8,16 @@ use Rattle.journal_text.specs.Text.{IsSpellable}
 use Rattle.join_history.specs.Contexts.{context_count}
 use Rattle.registrar_state.specs.State.{spare}
 use Rattle.journal_store.specs.Store.{disk_of, Stands}
-use Rattle.registrar_book.specs.Journals.{HasFront}
+use Rattle.registrar_book.specs.Journals.{AreSmall, HasFront}
 use Rattle.registrar_book.specs.Books.{IsKept}
 use Rattle.registrar_book.proofs.Planning.{contexts_left}
 use Rattle.registrar_book.proofs.book.Book.open.Goals as goal
 
 pub put_all-requires-clause-spellable : goal.put_all-requires-clause-spellable
 put_all-requires-clause-spellable g c = subst (AllByRecursion IsSpellable) (sym c.deref.ensures.value) c.requires.prepared.4.plan.spellable
+
+pub put_all-requires-clause-sizes : goal.put_all-requires-clause-sizes
+put_all-requires-clause-sizes g c = subst AreSmall (sym c.deref.ensures.value) c.requires.prepared.4.plan.small
 
 pub add_all-requires-clause-contexts : goal.add_all-requires-clause-contexts
 add_all-requires-clause-contexts g c =

@@ -1,13 +1,8 @@
-use Rattle.std.proofs.Common.{◌∙◌, subst, MatchOption}
-use Rattle.journal_text.specs.declared.entry.Entry.{Entry}
-use Rattle.join_history.specs.Decisions.{IsLastDecision}
-use Rattle.registrar_state.specs.Last.{IsLastAnswer}
-use Rattle.registrar_state.specs.State.{StandsFor}
+use Rattle.registrar_state.proofs.KeysLemmas.{no_decision, told_of}
 use Rattle.registrar_state.proofs.state.RegState.last_of.Goals as goal
 
-pub returns : goal.returns
-unfolding StandsFor
-returns c = λ h stands.
-    subst
-    (λ g. MatchOption c.last_answer.result ((e : Entry) → IsLastDecision g c.args.context e → ⊥) (IsLastAnswer g c.args.context))
-    (c.deref.ensures.value ∙ stands.0) c.last_answer.ensures
+pub returns-in-None : goal.returns-in-None
+returns-in-None c = λ h stands e. no_decision h c.args.context c.enrolled.result.now e (c.enrolled.ensures h stands) c.in-None.is
+
+pub returns-in-Some : goal.returns-in-Some
+returns-in-Some c = λ h stands. told_of h c.args.context c.enrolled.result.now c.in-Some.last (c.enrolled.ensures h stands) c.in-Some.is

@@ -1,15 +1,16 @@
-use Rattle.std.proofs.Common.{◌↔◌, ◌∙◌, sym, subst, IsTrue}
-use Rattle.join_history.specs.Legal.{IsLegal, MayFollow}
-use Rattle.registrar_state.specs.State.{StandsFor}
 use Rattle.registrar_state.proofs.state.RegState.may_follow.Goals as goal
 
-pub may_follow-requires : goal.may_follow-requires
-unfolding StandsFor
-may_follow-requires c =
-    subst IsLegal (sym (c.deref.ensures.value ∙ c.requires.1.0)) c.requires.1.1
+pub returns-in-Grant : goal.returns-in-Grant
+returns-in-Grant c = rw c.in-Grant.is c.may_grant.ensures
 
-pub returns : goal.returns
-unfolding StandsFor
-returns c = λ h stands.
-    subst (λ g. IsTrue c.may_follow.result ↔ MayFollow g c.args.entry.now) (c.deref.ensures.value ∙ stands.0)
-    c.may_follow.ensures
+pub returns-in-Given : goal.returns-in-Given
+returns-in-Given c = rw c.in-Given.is c.may_give.ensures
+
+pub returns-in-Stale : goal.returns-in-Stale
+returns-in-Stale c = rw c.in-Stale.is c.may_be_stale.ensures
+
+pub returns-in-Switch : goal.returns-in-Switch
+returns-in-Switch c = rw c.in-Switch.is c.may_switch.ensures
+
+pub returns-in-Release : goal.returns-in-Release
+returns-in-Release c = rw c.in-Release.is c.may_release.ensures

@@ -1,10 +1,8 @@
-use Rattle.std.proofs.Common.{◌≡◌, ◌∙◌, subst}
-use Rattle.std.specs.Option.{option_copied}
-use Rattle.join_history.specs.Leases.{current_settings}
-use Rattle.registrar_state.specs.State.{StandsFor}
+use Rattle.registrar_state.proofs.StateLemmas.{current_none, current_some}
 use Rattle.registrar_state.proofs.state.RegState.settings.Goals as goal
 
-pub returns : goal.returns
-unfolding StandsFor
-returns c = λ h stands.
-    subst (λ g. option_copied c.current_settings.result ≡ current_settings g) (c.deref.ensures.value ∙ stands.0) c.current_settings.ensures
+pub returns-in-None : goal.returns-in-None
+returns-in-None c = λ h stands. current_none c.args.self.now h stands c.in-None.is
+
+pub returns-in-Some : goal.returns-in-Some
+returns-in-Some c = λ h stands. current_some c.args.self.now h c.in-Some.timed stands c.in-Some.is

@@ -1,8 +1,0 @@
-use Rattle.std.proofs.Common.{◌<◌, ◌≤◌, ℕ, length, get_or}
-use Rattle.journal_text.specs.declared.entry.Entry.{Entry}
-use Rattle.join_history.specs.Decisions.{IsDecision}
-use Rattle.registrar_state.proofs.decisions.last_decision.Given as goal
-
-abbrev pub invariant-loop-place : goal.invariant-loop-place
-invariant-loop-place l = (k : ℕ) (d : Entry) → l.place ≤ k → k < length l.entries
-    → ((n : ℕ) × IsDecision l.context n (get_or l.entries k d)) → ⊥

@@ -1,0 +1,52 @@
+use Rattle.std.proofs.Common.{◌≡◌, None, refl, subst, sym}
+use Rattle.rekey_core.specs.Held.{known_of}
+use Rattle.registrar_state.specs.Pledges.{KnowPledges, room_of, limit_of, capacity_of}
+use Rattle.registrar_state.proofs.PledgeRoom.{has_room, room_kept}
+use Rattle.registrar_state.proofs.PledgeSteps.{spread_is_latest, lacking_is_kept, given_lacks, known_given}
+use Rattle.registrar_state.proofs.pledges.Pledges.give.Goals as goal
+
+pub given-requires-clause-latest : goal.given-requires-clause-latest
+unfolding KnowPledges
+given-requires-clause-latest c =
+    let r = c.requires in
+    let lacks = given_lacks r.0 r.1 r.2 r.3 c.args.epoch c.args.id r.4.may_follow r.5 in
+    spread_is_latest r.0 c.args.self.now.holders c.args.id c.args.epoch r.4.legal r.4.know.1 lacks.1
+
+pub given-requires-clause-room : goal.given-requires-clause-room
+unfolding KnowPledges
+given-requires-clause-room c = λ none.
+    let r = c.requires in
+    let lacks = given_lacks r.0 r.1 r.2 r.3 c.args.epoch c.args.id r.4.may_follow r.5 in
+    let x = lacking_is_kept r.0 c.args.self.now.grants.items r.1 c.args.epoch c.args.id r.4.know.0 lacks in
+    has_room c.args.self.now.holders c.args.self.now.grants.items x.0 c.args.self.now.room x.1
+    (subst (λ p. known_of c.args.self.now.holders p ≡ None) (sym x.2) none) c.args.self.now.held
+
+pub invariant_of-self : goal.invariant_of-self
+unfolding KnowPledges
+invariant_of-self c =
+    let r = c.requires in
+    let lacks = given_lacks r.0 r.1 r.2 r.3 c.args.epoch c.args.id r.4.may_follow r.5 in
+    let x = lacking_is_kept r.0 c.args.self.now.grants.items r.1 c.args.epoch c.args.id r.4.know.0 lacks in
+    record {
+      reserved = c.args.self.now.reserved;
+      held = room_kept c.args.self.now.holders c.given.new.self c.args.id _ c.args.self.now.grants.items x.0 c.args.self.now.room
+          c.given.ensures.sets x.1 x.2 c.args.self.now.held;
+    }
+
+pub returns-clause-know : goal.returns-clause-know
+unfolding KnowPledges
+returns-clause-know c = λ h time context number before owner.
+    known_given h time context number c.args.epoch c.args.id c.args.self.now.grants.items c.args.self.now.holders c.given.new.self
+    c.args.self.now.first before.legal before.may_follow owner c.given.ensures.sets before.know
+
+pub returns-clause-room : goal.returns-clause-room
+unfolding room_of
+returns-clause-room c = refl
+
+pub returns-clause-limit : goal.returns-clause-limit
+unfolding limit_of
+returns-clause-limit c = refl
+
+pub returns-clause-memory : goal.returns-clause-memory
+unfolding capacity_of
+returns-clause-memory c = refl
