@@ -1,5 +1,5 @@
 //! The rows that are known, and the index of their places by their checks.
-ghost use Rattle.std.specs.Prelude.{◌≡◌, ◌<◌, ◌∷◌, ◌++◌, [], ℕ, List, length, get_or, IfOk, IfSome, IfNone, OnOk, OnErr};
+ghost use Rattle.std.specs.Prelude.{◌≡◌, ◌<◌, ◌∷◌, ◌++◌, [], ℕ, List, length, get_or, IfSome, IfNone, OnOk, OnErr};
 ghost use Rattle.edge_traits.specs.declared.names.PledgeId.{PledgeId};
 ghost use Rattle.registrar_book.specs.Known.{Knows};
 ghost use Rattle.registrar_book.specs.Index.{IsIndexOf};

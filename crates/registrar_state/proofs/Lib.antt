@@ -28,3 +28,4 @@ pub mod PledgesRestored
 pub mod StandsRestored
 pub mod SummaryLemmas
 pub mod LastLemmas
+pub mod ReadableLemmas

@@ -78,7 +78,7 @@ one_more h (Enroll context id check) few may =
 one_more h e few may = let count = context_count-append h (e ∷ []) in omega (arith, count, few)
 
 -- there are few contexts
-few_contexts : (h : List Entry) → IsLegal h → context_count h ≤ 32768
+pub few_contexts : (h : List Entry) → IsLegal h → context_count h ≤ 32768
 few_contexts =
     legal_induction (λ h. context_count h ≤ 32768) (omega arith) (λ h e legal may few. one_more h e few may)
 

@@ -18,6 +18,8 @@ mod restore;
 mod room;
 mod state;
 mod summary;
+#[cfg(test)]
+mod tests;
 mod times;
 mod updates;
 

@@ -1,5 +1,5 @@
 //! The identifiers of a script, and the index of their places.
-ghost use Rattle.std.specs.Prelude.{◌≡◌, ◌≢◌, ◌∷◌, ◌++◌, [], ℕ, List, AllPairs, Contains, IfSome, IfNone, OnOk, OnErr};
+ghost use Rattle.std.specs.Prelude.{◌≡◌, ◌≢◌, ◌∷◌, ◌++◌, [], List, AllPairs, Contains, IfSome, IfNone, OnOk, OnErr};
 ghost use Rattle.edge_traits.specs.declared.names.PledgeId.{PledgeId as Id};
 ghost use Rattle.registrar_book.specs.Index.{IsIndexOf};
 ghost use Rattle.registrar_tool.specs.Opened.{AddsOnce, IsListedAt};
