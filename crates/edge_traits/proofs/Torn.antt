@@ -28,7 +28,7 @@ torn_set at n old new byte torn = record {
   no_longer = omega (arith, torn.no_longer, length-set new (at + n) byte);
 }
 
--- one byte more came to stand at the end
+-- one byte more came to are at the end
 pub torn_push : (at n : ℕ) (old new : List ℕ) (byte : ℕ) → length new ≡ at + n → Torn at n old new → Torn at (n + 1) old (new ++ byte ∷ [])
 torn_push at n old new byte ends torn = record {
   before = take-append-le at new (byte ∷ []) (omega arith) ∙ torn.before;

@@ -6,7 +6,7 @@ ghost use Rattle.edge_traits.specs.Disk.{Areas, bytes_of, Overwrites, Torn, Chan
 use crate::{Area, Failed};
 
 pub trait Disk: Drop {
-    /// Whether the disk tells of its content. This never changes.
+    /// Whether the disk reports its content. This never changes.
     ghost tells: { Self → Bool };
 
     /// What a read gives.
@@ -44,8 +44,8 @@ pub trait Disk: Drop {
         ensures tells { tells self.new ≡ tells self.old }
         ensures cause { HasCause (fault_count self.old) (fault_count self.new) result };
 
-    /// Writes over what is there, and past the end. Until a sync of the area answers `Ok`, a crash may leave any bytes
-    /// in the range. After `Failed` some of the bytes may stand there.
+    /// Writes over what is there, and past the end. Until a sync of the area returns `Ok`, a crash may leave any bytes
+    /// in the range. After `Failed` some of the bytes may be there.
     fn write_at(&mut self, area: Area, at: u64, bytes: &[u8]) -> Result<(), Failed>
         requires { IsTrue (tells self.old) → at ≤ length (bytes_of (seen self.old) area) }
         ensures written { IsTrue (tells self.old)

@@ -1,6 +1,6 @@
 // The outside as the registrar sees it: sources, sinks and disks, and the names of pledges and peers.
-// It promises the layers above what each call does to what an object tells, and that a call fails only where
-// its count of faults rose. The definitions are in specs/: Faults, Source, Sink and Disk.
+// It promises the layers above what each call does to what an object reports, and that a call fails only where
+// its count of faults rose. The definitions are in specs/: Faults, Source, Sink, Disk and Runs.
 #![tactic(auto)]
 
 mod disk;
@@ -10,5 +10,5 @@ mod source;
 
 pub use disk::Disk;
 pub use names::{Area, Failed, Peer, PledgeId};
-pub use sink::Sink;
+pub use sink::{Sink, write_all};
 pub use source::Source;

@@ -1,7 +1,7 @@
-//! Who and what stands outside: pledges, peers, the areas of a disk, and the one failure of a device.
+//! Who and what is outside: pledges, peers, the areas of a disk, and the one failure of a device.
 use thiserror::Error;
 
-/// A call on a device failed. The device's count of faults rose, or stands at 2^64 - 1.
+/// A call on a device failed. The device's count of faults rose, or is at 2^64 - 1.
 #[derive(Clone, Copy, Debug, PartialEq, Eq, Error)]
 #[error("the device failed")]
 pub struct Failed;

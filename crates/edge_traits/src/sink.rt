@@ -1,12 +1,12 @@
 //! A stream of bytes that is written at its end.
-ghost use Rattle.std.specs.Prelude.{◌≡◌, ◌≤◌, ◌<◌, ◌^◌, ℕ, List, Option, length, take, IfOk, OnErr};
+ghost use Rattle.std.specs.Prelude.{◌≡◌, ◌≤◌, ◌<◌, ◌^◌, ℕ, List, Option, length, take, IfOk, OnOk, OnErr};
 ghost use Rattle.edge_traits.specs.Faults.{HasCause};
-ghost use Rattle.edge_traits.specs.Sink.{Appends};
+ghost use Rattle.edge_traits.specs.Sink.{Appends, AppendsPrefix};
 
 use crate::Failed;
 
 pub trait Sink: Drop {
-    /// What was written, where the sink tells it.
+    /// What was written, where the sink reports it.
     ghost written: { Self → Option (List ℕ) };
 
     /// How many calls failed, at most 2^64 - 1.
@@ -26,4 +26,18 @@ pub trait Sink: Drop {
 
     /// A count of faults fits 64 bits.
     ghost fault_count_fits: { (sink : Self) → fault_count sink < 2 ^ 64 };
+}
+
+/// Writes all of the bytes, in as many calls as the sink takes. After `Failed` a prefix of them was written.
+pub fn write_all<K: Sink>(out: &mut K, bytes: &[u8]) -> Result<(), Failed>
+    ensures ok { OnOk result (Appends (K.written out.old) (K.written out.new) bytes.now) }
+    ensures err { OnErr result (AppendsPrefix (K.written out.old) (K.written out.new) bytes.now) }
+    ensures cause { HasCause (K.fault_count out.old) (K.fault_count out.new) result }
+{
+    let mut rest = bytes;
+    while !rest.is_empty() {
+        let taken = out.write(rest)?;
+        rest = &rest[taken..];
+    }
+    Ok(())
 }

@@ -1,4 +1,4 @@
-//! A stream of bytes that is read once, from its front to its end.
+//! A stream of bytes that is read once, from its start to its end.
 ghost use Rattle.std.specs.Prelude.{◌≡◌, ◌≤◌, ◌<◌, ◌^◌, ℕ, List, Option, length, take, IfOk, OnErr, Ok};
 ghost use Rattle.edge_traits.specs.Faults.{HasCause};
 ghost use Rattle.edge_traits.specs.Source.{Takes, IsAtEnd};
@@ -6,7 +6,7 @@ ghost use Rattle.edge_traits.specs.Source.{Takes, IsAtEnd};
 use crate::Failed;
 
 pub trait Source: Drop {
-    /// What is left to read, where the source tells it.
+    /// What is left to read, where the source reports it.
     ghost left: { Self → Option (List ℕ) };
 
     /// How many calls failed, at most 2^64 - 1.

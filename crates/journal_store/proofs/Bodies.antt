@@ -16,7 +16,7 @@ use Rattle.journal_text.proofs.Fields.{IsBytes, number4, length-number_text}
 use Rattle.journal_store.specs.declared.fault.StoreFault.{StoreFault}
 use Rattle.journal_store.specs.declared.fault.StoreFault.TheVariants.{Disk, AlreadyThere, NotAJournal, NoMemory}
 use Rattle.journal_store.specs.declared.fault.Spot.TheVariants.{Place, Summary, Entry as EntrySpot}
-use Rattle.journal_store.specs.Area.{header, IsBatch, body_text, batch_text, front_text, IsRead, IsLog}
+use Rattle.journal_store.specs.Area.{first_header, IsBatch, body_text, batch_text, prefix_text, IsRead, IsLog}
 use Rattle.journal_store.specs.Fault.{IsBody, HasNoLength, HasNoLengthAt, HasNoGate, BodyCause, AreaCause}
 use Rattle.journal_store.specs.Store.{end_limit}
 use Rattle.journal_store.proofs.Areas.{All-push, batch_more}
@@ -38,7 +38,7 @@ entry_some (Release time id) = omega arith
 pub entries_text-push : (entries : List Entry) (e : Entry) → entries_text (entries ++ e ∷ []) ≡ entries_text entries ++ entry_text e
 entries_text-push entries e = flat_map-append entry_text entries (e ∷ []) ∙ ap (λ (xs : List ℕ). entries_text entries ++ xs) (append-nil (entry_text e))
 
--- entries were read from the front of the body, and joined the log
+-- entries were read from the start of the body, and joined the log
 pub record IsPart (body : List ℕ) (first log : List Entry) (rest : List ℕ) : Type 0 where
   pub entries : List Entry
   pub fit : AllByRecursion Fits entries
@@ -87,31 +87,31 @@ split bytes body behind size fits long is len after =
 
 -- ---- a batch more in an area
 
-pub read_length : (end : ℕ) (log : List Entry) (area rest : List ℕ) → IsRead end log area rest → length area ≡ end + length rest
-read_length end log area rest read = omega (arith, read.ends, ap length read.text, length-append (front_text read.batches) rest)
+pub read_length : (end : ℕ) (log : List Entry) (area rest : List ℕ) → IsRead first_header end log area rest → length area ≡ end + length rest
+read_length end log area rest read = omega (arith, read.ends, ap length read.text, length-append (prefix_text first_header read.batches) rest)
 
 -- the entries of a body make a batch
 pub batch_of : (body behind bytes : List ℕ) (entries : List Entry) → IsBody body behind bytes → AllByRecursion Fits entries → body ≡ entries_text entries → IsBatch entries
 batch_of body behind bytes entries is fit text = record { some = omega (arith, is.some, ap length text); most = omega (arith, is.most, ap length text); fit = fit }
 
-pub area_more : (area : List ℕ) (log : List Entry) (rest bytes body behind : List ℕ) (entries : List Entry) → IsRead (length area - length rest) log area rest → rest ≡ 1 ∷ bytes
-    → IsBody body behind bytes → AllByRecursion Fits entries → body ≡ entries_text entries → IsRead (length area - length behind) (log ++ entries) area behind
+pub area_more : (area : List ℕ) (log : List Entry) (rest bytes body behind : List ℕ) (entries : List Entry) → IsRead first_header (length area - length rest) log area rest → rest ≡ 1 ∷ bytes
+    → IsBody body behind bytes → AllByRecursion Fits entries → body ≡ entries_text entries → IsRead first_header (length area - length behind) (log ++ entries) area behind
 unfolding body_text
 area_more area log rest bytes body behind entries read is_open is fit text =
     let end = length area - length rest in
     let spelled : bytes ≡ body_text entries ++ behind = is.text ∙ ap (λ (xs : List ℕ). number_text 4 (length xs) ++ xs ++ behind) text in
-    let opened : IsRead end log area (1 ∷ (body_text entries ++ behind)) = subst (λ (xs : List ℕ). IsRead end log area xs) (is_open ∙ ap (λ (xs : List ℕ). 1 ∷ xs) spelled) read in
-    let next = batch_more end log area entries behind opened (batch_of body behind bytes entries is fit text) in
+    let opened : IsRead first_header end log area (1 ∷ (body_text entries ++ behind)) = subst (λ (xs : List ℕ). IsRead first_header end log area xs) (is_open ∙ ap (λ (xs : List ℕ). 1 ∷ xs) spelled) read in
+    let next = batch_more first_header end log area entries behind opened (batch_of body behind bytes entries is fit text) in
     let ends : end + 1 + length (body_text entries) ≡ length area - length behind = omega (arith, read_length _ _ _ _ next) in
-    subst (λ (n : ℕ). IsRead n (log ++ entries) area behind) ends next
+    subst (λ (n : ℕ). IsRead first_header n (log ++ entries) area behind) ends next
 
-pub no_entry_in : (area : List ℕ) (log : List Entry) (rest bytes body behind : List ℕ) (fault : StoreFault) → IsRead (length area - length rest) log area rest → rest ≡ 1 ∷ bytes
+pub no_entry_in : (area : List ℕ) (log : List Entry) (rest bytes body behind : List ℕ) (fault : StoreFault) → IsRead first_header (length area - length rest) log area rest → rest ≡ 1 ∷ bytes
     → IsBody body behind bytes → BodyCause (length log) body fault → AreaCause area fault
 no_entry_in area log rest bytes body behind (NotAJournal (EntrySpot index)) read is_open is cause = record {
   gate = length area - length rest;
   log = log;
   bytes = bytes;
-  read = subst (λ (xs : List ℕ). IsRead (length area - length rest) log area xs) is_open read;
+  read = subst (λ (xs : List ℕ). IsRead first_header (length area - length rest) log area xs) is_open read;
   body = body;
   behind = behind;
   is_body = is;
@@ -125,25 +125,25 @@ no_entry_in area log rest bytes body behind NoMemory read is_open is cause = tt
 no_entry_in area log rest bytes body behind (Disk count) read is_open is cause = absurd cause
 no_entry_in area log rest bytes body behind (AlreadyThere n) read is_open is cause = absurd cause
 
-pub no_length_in : (area : List ℕ) (log : List Entry) (rest bytes : List ℕ) → IsRead (length area - length rest) log area rest → rest ≡ 1 ∷ bytes
+pub no_length_in : (area : List ℕ) (log : List Entry) (rest bytes : List ℕ) → IsRead first_header (length area - length rest) log area rest → rest ≡ 1 ∷ bytes
     → HasNoLength bytes → HasNoLengthAt (length area - length bytes) area
 no_length_in area log rest bytes read is_open fault = record {
   gate = length area - length rest;
   log = log;
   bytes = bytes;
-  read = subst (λ (xs : List ℕ). IsRead (length area - length rest) log area xs) is_open read;
+  read = subst (λ (xs : List ℕ). IsRead first_header (length area - length rest) log area xs) is_open read;
   next = omega (arith, read_length _ _ _ _ read, ap length is_open);
   fault = fault;
 }
 
-pub no_gate_in : (area : List ℕ) (log : List Entry) (rest : List ℕ) → IsRead (length area - length rest) log area rest → rest ≡ [] → HasNoGate (length area) area
+pub no_gate_in : (area : List ℕ) (log : List Entry) (rest : List ℕ) → IsRead first_header (length area - length rest) log area rest → rest ≡ [] → HasNoGate (length area) area
 no_gate_in area log rest read none =
     let end : length area - length rest ≡ length area = omega (arith, ap length none) in
-    (log, subst (λ (xs : List ℕ). IsRead (length area) log area xs) none (subst (λ (n : ℕ). IsRead n log area rest) end read))
+    (log, subst (λ (xs : List ℕ). IsRead first_header (length area) log area xs) none (subst (λ (n : ℕ). IsRead first_header n log area rest) end read))
 
--- an area behind whose header nothing was read yet
-pub begun : (area : List ℕ) → take 42 area ≡ header → IsRead 42 [] area (drop 42 area)
-unfolding front_text
+-- an area after whose header nothing was read yet
+pub begun : (area : List ℕ) → take 42 area ≡ first_header → IsRead first_header 42 [] area (drop 42 area)
+unfolding prefix_text
 begun area is = record {
   batches = [];
   whole = tt;
@@ -169,15 +169,15 @@ batches_limit ((e ∷ es) ∷ batches) all =
       length-append es (flat_map (λ x. x) batches),
     )
 
-pub log_limit : (end : ℕ) (log : List Entry) (area : List ℕ) → IsLog end log area → end ≤ end_limit (length log)
-unfolding front_text
+pub log_limit : (end : ℕ) (log : List Entry) (area : List ℕ) → IsLog first_header end log area → end ≤ end_limit (length log)
+unfolding prefix_text
 log_limit end log area is =
-    omega (arith, is.read.ends, ap length is.read.holds, batches_limit is.read.batches is.read.whole, length-append header (flat_map batch_text is.read.batches))
+    omega (arith, is.read.ends, ap length is.read.holds, batches_limit is.read.batches is.read.whole, length-append first_header (flat_map batch_text is.read.batches))
 
-pub limit_of : {E : Type 0} (area : List ℕ) (r : Result (ℕ × Vec Entry Global) E) → IfOk r (λ read. IsLog read.0 read.1.items area) → IfOk r (λ read. read.0 ≤ end_limit (length read.1.items))
+pub limit_of : {E : Type 0} (area : List ℕ) (r : Result (ℕ × Vec Entry Global) E) → IfOk r (λ read. IsLog first_header read.0 read.1.items area) → IfOk r (λ read. read.0 ≤ end_limit (length read.1.items))
 limit_of area (Ok read) is = log_limit read.0 read.1.items area is
 limit_of area (Err e) is = tt
 
 -- the header is whole
-pub header_whole : (area : List ℕ) → take 42 area ≡ header → 42 ≤ length area
+pub header_whole : (area : List ℕ) → take 42 area ≡ first_header → 42 ≤ length area
 header_whole area is = omega (arith, ap length is, length-take 42 area)

@@ -9,10 +9,10 @@ use Rattle.journal_text.proofs.Fields.{length-number_text}
 use Rattle.journal_text.proofs.Entries.{one_spelling}
 use Rattle.journal_store.specs.declared.fault.Spot.{Spot}
 use Rattle.journal_store.specs.declared.fault.Spot.TheVariants.{Place, Summary, Entry as EntrySpot}
-use Rattle.journal_store.specs.Area.{header, IsBatch, body_text, batch_text, front_text, IsRead}
+use Rattle.journal_store.specs.Area.{first_header, IsBatch, body_text, batch_text, prefix_text, IsRead}
 use Rattle.journal_store.specs.Fault.{AgreesTo, DiffersAt, IsSummaryCut, HasOtherSummary, HasOtherByte, HasNoLength, HasNoLengthAt, IsBody, HasNoEntry, HasNoEntryAt, HasNoGate, HasFault}
 use Rattle.journal_store.proofs.Headers.{agrees_less}
-use Rattle.journal_store.proofs.Unique.{same_front, same_tail, entries_unique, body_unique, text_of, spelled, HasHeader, no_difference, no_cut, summary_is, HasBatch, no_length_fault, no_entry_fault, length_is}
+use Rattle.journal_store.proofs.Unique.{same_prefix, same_tail, entries_unique, body_unique, text_of, spelled, HasHeader, no_difference, no_cut, summary_is, HasBatch, no_length_fault, no_entry_fault, length_is}
 
 -- ---- the header
 
@@ -69,7 +69,7 @@ splits (a ∷ b) (d ∷ c) x y all all' is =
       | inr more ↦ inr (deeper d a c b y x (sym same) more)
     ]
 
--- no batch stands at the front of these bytes
+-- no batch is at the start of these bytes
 Stuck : List ℕ → Type 0
 Stuck bytes = (d : List Entry) (rest : List ℕ) → IsBatch d → bytes ≡ batch_text d ++ rest → ⊥
 
@@ -78,18 +78,18 @@ unfolding Stuck
 none_more [] x y all stuck is = refl
 none_more (d ∷ more) x y all stuck is = absurd (stuck d (text_of more ++ x) all.0 (is ∙ append_assoc (batch_text d) (text_of more) x))
 
--- two readings that stop where no batch stands
+-- two readings that stop where there is no batch
 record Agree (place other : ℕ) (log log' : List Entry) (x y : List ℕ) : Type 0 where
   places : place ≡ other
   logs : log ≡ log'
   rests : x ≡ y
 
-agree_by : (place other : ℕ) (log log' : List Entry) (area x y : List ℕ) (a : IsRead place log area x) (b : IsRead other log' area y) → Stuck y → Splits a.batches b.batches x y → Agree place other log log' x y
+agree_by : (place other : ℕ) (log log' : List Entry) (area x y : List ℕ) (a : IsRead first_header place log area x) (b : IsRead first_header other log' area y) → Stuck y → Splits a.batches b.batches x y → Agree place other log log' x y
 agree_by place other log log' area x y a b stuck is =
     let none = none_more is.more x y is.whole stuck is.left in
     let same : a.batches ≡ b.batches = is.parts ∙ ap (λ (l : List (List Entry)). b.batches ++ l) none ∙ append-nil b.batches in
     record {
-      places = a.ends ∙ ap (λ (l : List (List Entry)). length (front_text l)) same ∙ sym b.ends;
+      places = a.ends ∙ ap (λ (l : List (List Entry)). length (prefix_text first_header l)) same ∙ sym b.ends;
       logs = a.holds ∙ ap (λ (l : List (List Entry)). flat_map (λ e. e) l) same ∙ sym b.holds;
       rests = sym (is.left ∙ ap (λ (l : List (List Entry)). text_of l ++ x) none);
     }
@@ -97,36 +97,36 @@ agree_by place other log log' area x y a b stuck is =
 turned : (place other : ℕ) (log log' : List Entry) (x y : List ℕ) → Agree place other log log' x y → Agree other place log' log y x
 turned place other log log' x y is = record { places = sym is.places; logs = sym is.logs; rests = sym is.rests }
 
-agree : (place other : ℕ) (log log' : List Entry) (area x y : List ℕ) → IsRead place log area x → IsRead other log' area y → Stuck x → Stuck y → Agree place other log log' x y
-unfolding front_text
+agree : (place other : ℕ) (log log' : List Entry) (area x y : List ℕ) → IsRead first_header place log area x → IsRead first_header other log' area y → Stuck x → Stuck y → Agree place other log log' x y
+unfolding prefix_text
 agree place other log log' area x y a b stuck stuck' =
-    let whole : header ++ (text_of a.batches ++ x) ≡ header ++ (text_of b.batches ++ y)
-    = sym (append_assoc header (text_of a.batches) x) ∙ sym a.text ∙ b.text ∙ append_assoc header (text_of b.batches) y in
-    elim (splits a.batches b.batches x y a.whole b.whole (same_front header header _ _ refl whole).1) [
+    let whole : first_header ++ (text_of a.batches ++ x) ≡ first_header ++ (text_of b.batches ++ y)
+    = sym (append_assoc first_header (text_of a.batches) x) ∙ sym a.text ∙ b.text ∙ append_assoc first_header (text_of b.batches) y in
+    elim (splits a.batches b.batches x y a.whole b.whole (same_prefix first_header first_header _ _ refl whole).1) [
       | inl more ↦ agree_by place other log log' area x y a b stuck' more
       | inr more ↦ turned other place log' log y x (agree_by other place log' log area y x b a stuck more)
     ]
 
-read_header : (place : ℕ) (log : List Entry) (area rest : List ℕ) → IsRead place log area rest → HasHeader area
-unfolding front_text
-read_header place log area rest is = record { behind = text_of is.batches ++ rest; text = is.text ∙ append_assoc header (text_of is.batches) rest }
+read_header : (place : ℕ) (log : List Entry) (area rest : List ℕ) → IsRead first_header place log area rest → HasHeader area
+unfolding prefix_text
+read_header place log area rest is = record { behind = text_of is.batches ++ rest; text = is.text ∙ append_assoc first_header (text_of is.batches) rest }
 
--- ---- where no batch stands
+-- ---- where there is no batch
 
 stuck_end : Stuck []
 unfolding Stuck
 stuck_end d rest batch is = omega (arith, ap length is, length-append (batch_text d) rest)
 
-front_batch : (bytes : List ℕ) (d : List Entry) (rest : List ℕ) → IsBatch d → 1 ∷ bytes ≡ batch_text d ++ rest → HasBatch bytes
-front_batch bytes d rest batch is = record { batch = d; whole = batch; rest = rest; text = (same_tail 1 1 bytes (body_text d ++ rest) is).1 }
+prefix_batch : (bytes : List ℕ) (d : List Entry) (rest : List ℕ) → IsBatch d → 1 ∷ bytes ≡ batch_text d ++ rest → HasBatch bytes
+prefix_batch bytes d rest batch is = record { batch = d; whole = batch; rest = rest; text = (same_tail 1 1 bytes (body_text d ++ rest) is).1 }
 
 stuck_length : (bytes : List ℕ) → HasNoLength bytes → Stuck (1 ∷ bytes)
 unfolding Stuck
-stuck_length bytes fault d rest batch is = no_length_fault bytes (front_batch bytes d rest batch is) fault
+stuck_length bytes fault d rest batch is = no_length_fault bytes (prefix_batch bytes d rest batch is) fault
 
 stuck_entry : (bytes body behind : List ℕ) (count : ℕ) → IsBody body behind bytes → HasNoEntry count body → Stuck (1 ∷ bytes)
 unfolding Stuck
-stuck_entry bytes body behind count is_body fault d rest batch is = no_entry_fault bytes body behind count (front_batch bytes d rest batch is) is_body fault
+stuck_entry bytes body behind count is_body fault d rest batch is = no_entry_fault bytes body behind count (prefix_batch bytes d rest batch is) is_body fault
 
 -- ---- bodies
 
@@ -151,10 +151,10 @@ one_body bytes body behind other after a b =
     let size : length body ≡ length other = sym (size_of bytes body behind a) ∙ size_of bytes other after b in
     let whole : number_text 4 (length body) ++ (body ++ behind) ≡ number_text 4 (length other) ++ (other ++ after)
     = sym (append_assoc (number_text 4 (length body)) body behind) ∙ sym a.text ∙ b.text ∙ append_assoc (number_text 4 (length other)) other after in
-    (same_front body other behind after size
-    (same_front (number_text 4 (length body)) (number_text 4 (length other)) (body ++ behind) (other ++ after) (omega (arith, length-number_text 4 (length body), length-number_text 4 (length other))) whole).1).0
+    (same_prefix body other behind after size
+    (same_prefix (number_text 4 (length body)) (number_text 4 (length other)) (body ++ behind) (other ++ after) (omega (arith, length-number_text 4 (length body), length-number_text 4 (length other))) whole).1).0
 
--- as many entries stand before the first that has no reading
+-- as many entries come before the first that has no reading
 one_count : (es fs : List Entry) (bad bad' : List ℕ) → AllByRecursion Fits es → AllByRecursion Fits fs → ((e : Entry) (rest : List ℕ) → Fits e → bad ≡ entry_text e ++ rest → ⊥)
     → ((e : Entry) (rest : List ℕ) → Fits e → bad' ≡ entry_text e ++ rest → ⊥) → entries_text es ++ bad ≡ entries_text fs ++ bad' → length es ≡ length fs
 one_count [] [] bad bad' fit fit' none none' is = refl
@@ -204,7 +204,7 @@ log_entry_entry i j area a b =
 
 -- ---- all faults
 
--- faults of the header, and those behind a whole one
+-- faults of the header, and those after a whole one
 HasLater : List ℕ → Spot → Type 0
 HasLater area (Place place) = HasNoGate place area ⊎ HasNoLengthAt place area
 HasLater area (Summary place) = ⊥

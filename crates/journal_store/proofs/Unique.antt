@@ -9,14 +9,14 @@ use Rattle.journal_text.proofs.Fields.{length-number_text, number_of-text}
 use Rattle.journal_text.proofs.Entries.{one_spelling}
 use Rattle.journal_store.specs.declared.fault.Spot.{Spot}
 use Rattle.journal_store.specs.declared.fault.Spot.TheVariants.{Place, Summary, Entry as EntrySpot}
-use Rattle.journal_store.specs.Area.{header, formatted, IsBatch, body_text, batch_text, front_text, IsRead, IsLog}
+use Rattle.journal_store.specs.Area.{first_header, empty_journal, IsBatch, body_text, batch_text, prefix_text, IsRead, IsLog}
 use Rattle.journal_store.specs.Fault.{AgreesTo, DiffersAt, summary_length, IsSummaryCut, HasNoLength, IsBody, HasNoEntry, HasNoGate, HasFault}
 use Rattle.journal_store.proofs.Bodies.{entry_some}
 
 -- ---- lists
 
-pub same_front : (x y a b : List ℕ) → length x ≡ length y → x ++ a ≡ y ++ b → (x ≡ y) × (a ≡ b)
-same_front x y a b len is = (
+pub same_prefix : (x y a b : List ℕ) → length x ≡ length y → x ++ a ≡ y ++ b → (x ≡ y) × (a ≡ b)
+same_prefix x y a b len is = (
   sym (take_at x a (length x) refl) ∙ ap (λ (xs : List ℕ). take (length x) xs) is ∙ take_at y b (length x) (sym len),
   sym (drop_at x a (length x) refl) ∙ ap (λ (xs : List ℕ). drop (length x) xs) is ∙ drop_at y b (length x) (sym len),
 )
@@ -51,7 +51,7 @@ entries_whole (e ∷ es) (f ∷ fs) bad fit fit' is more none =
 pub length_is : (n : ℕ) (rest : List ℕ) → n ≤ 4096 → number_of 4 (number_text 4 n ++ rest) ≡ n
 length_is n rest le = number_of-text 4 n rest (omega (arith, le))
 
--- one body stands at the front of some bytes
+-- one body is at the start of some bytes
 pub body_unique : (es : List Entry) (body rest behind : List ℕ) → IsBatch es → 1 ≤ length body → length body ≤ 4096
     → body_text es ++ rest ≡ number_text 4 (length body) ++ body ++ behind → (entries_text es ≡ body) × (rest ≡ behind)
 unfolding body_text
@@ -61,8 +61,8 @@ body_unique es body rest behind batch some most is =
     = sym (append_assoc (number_text 4 (length text)) text rest) ∙ is ∙ append_assoc (number_text 4 (length body)) body behind in
     let size : length text ≡ length body
     = sym (length_is (length text) (text ++ rest) batch.most) ∙ ap (λ (xs : List ℕ). number_of 4 xs) left ∙ length_is (length body) (body ++ behind) most in
-    let numbers = same_front (number_text 4 (length text)) (number_text 4 (length body)) (text ++ rest) (body ++ behind) (omega (arith, length-number_text 4 (length text), length-number_text 4 (length body))) left in
-    same_front text body rest behind size numbers.1
+    let numbers = same_prefix (number_text 4 (length text)) (number_text 4 (length body)) (text ++ rest) (body ++ behind) (omega (arith, length-number_text 4 (length text), length-number_text 4 (length body))) left in
+    same_prefix text body rest behind size numbers.1
 
 abbrev pub text_of : List (List Entry) → List ℕ
 text_of batches = flat_map batch_text batches
@@ -97,43 +97,44 @@ prefix (a ∷ b) (d ∷ c) gate behind rest all all' shut is =
       left = next.left;
     }
 
--- what was read of an area with a log is a front of its batches
-read_of : (end place : ℕ) (log other : List Entry) (area rest : List ℕ) (is : IsLog end log area) (read : IsRead place other area rest)
-    → Begins is.read.batches read.batches is.gate is.behind rest
-unfolding front_text
-read_of end place log other area rest is read =
-    let whole : header ++ (text_of is.read.batches ++ is.gate ∷ is.behind) ≡ header ++ (text_of read.batches ++ rest)
-    = sym (append_assoc header (text_of is.read.batches) (is.gate ∷ is.behind)) ∙ sym is.read.text ∙ read.text ∙ append_assoc header (text_of read.batches) rest in
-    prefix is.read.batches read.batches is.gate is.behind rest is.read.whole read.whole is.closed (same_front header header _ _ refl whole).1
+module _ (header : List ℕ) where
+  -- what was read of an area with a log is a prefix of its batches
+  read_of : (end place : ℕ) (log other : List Entry) (area rest : List ℕ) (is : IsLog header end log area) (read : IsRead header place other area rest)
+      → Begins is.read.batches read.batches is.gate is.behind rest
+  unfolding prefix_text
+  read_of end place log other area rest is read =
+      let whole : header ++ (text_of is.read.batches ++ is.gate ∷ is.behind) ≡ header ++ (text_of read.batches ++ rest)
+      = sym (append_assoc header (text_of is.read.batches) (is.gate ∷ is.behind)) ∙ sym is.read.text ∙ read.text ∙ append_assoc header (text_of read.batches) rest in
+      prefix is.read.batches read.batches is.gate is.behind rest is.read.whole read.whole is.closed (same_prefix header header _ _ refl whole).1
 
-pub one_log : (end place : ℕ) (log other : List Entry) (area : List ℕ) → IsLog end log area → IsLog place other area → (end ≡ place) × (log ≡ other)
-one_log end place log other area a b =
-    let same = by (read_of end place log other area (b.gate ∷ b.behind) a b.read) in
-    (a.read.ends ∙ ap (λ (xs : List (List Entry)). length (front_text xs)) same ∙ sym b.read.ends, a.read.holds ∙ ap (λ (xs : List (List Entry)). flat_map (λ x. x) xs) same ∙ sym b.read.holds)
-  where
-    none : (more : List (List Entry)) (gate : ℕ) (behind : List ℕ) → b.gate ∷ b.behind ≡ text_of more ++ gate ∷ behind → more ≡ []
-    none [] gate behind is = refl
-    none (d ∷ more) gate behind is = absurd (b.closed (same_tail b.gate 1 b.behind _ is).0)
+  pub one_log : (end place : ℕ) (log other : List Entry) (area : List ℕ) → IsLog header end log area → IsLog header place other area → (end ≡ place) × (log ≡ other)
+  one_log end place log other area a b =
+      let same = by (read_of end place log other area (b.gate ∷ b.behind) a b.read) in
+      (a.read.ends ∙ ap (λ (xs : List (List Entry)). length (prefix_text header xs)) same ∙ sym b.read.ends, a.read.holds ∙ ap (λ (xs : List (List Entry)). flat_map (λ x. x) xs) same ∙ sym b.read.holds)
+    where
+      none : (more : List (List Entry)) (gate : ℕ) (behind : List ℕ) → b.gate ∷ b.behind ≡ text_of more ++ gate ∷ behind → more ≡ []
+      none [] gate behind is = refl
+      none (d ∷ more) gate behind is = absurd (b.closed (same_tail b.gate 1 b.behind _ is).0)
 
-    by : Begins a.read.batches b.read.batches a.gate a.behind (b.gate ∷ b.behind) → a.read.batches ≡ b.read.batches
-    by begins = begins.parts ∙ ap (λ (xs : List (List Entry)). b.read.batches ++ xs) (none begins.more a.gate a.behind begins.left) ∙ append-nil b.read.batches
+      by : Begins a.read.batches b.read.batches a.gate a.behind (b.gate ∷ b.behind) → a.read.batches ≡ b.read.batches
+      by begins = begins.parts ∙ ap (λ (xs : List (List Entry)). b.read.batches ++ xs) (none begins.more a.gate a.behind begins.left) ∙ append-nil b.read.batches
 
 -- ---- faults
 
--- what stands behind the header
+-- what comes after the header
 pub record HasHeader (area : List ℕ) : Type 0 where
   pub behind : List ℕ
-  pub text : area ≡ header ++ behind
+  pub text : area ≡ first_header ++ behind
 
-header_of : (end : ℕ) (log : List Entry) (area : List ℕ) → IsLog end log area → HasHeader area
-unfolding front_text
-header_of end log area is = record { behind = text_of is.read.batches ++ is.gate ∷ is.behind; text = is.read.text ∙ append_assoc header (text_of is.read.batches) (is.gate ∷ is.behind) }
+header_of : (end : ℕ) (log : List Entry) (area : List ℕ) → IsLog first_header end log area → HasHeader area
+unfolding prefix_text
+header_of end log area is = record { behind = text_of is.read.batches ++ is.gate ∷ is.behind; text = is.read.text ∙ append_assoc first_header (text_of is.read.batches) (is.gate ∷ is.behind) }
 
 pub long : (area : List ℕ) → HasHeader area → 42 ≤ length area
-long area h = omega (arith, ap length h.text, length-append header h.behind)
+long area h = omega (arith, ap length h.text, length-append first_header h.behind)
 
 pub agrees : (n : ℕ) (area : List ℕ) → HasHeader area → n ≤ 42 → AgreesTo n area
-agrees n area h le = ap (λ (xs : List ℕ). take n xs) h.text ∙ take-append-le n header h.behind le
+agrees n area h le = ap (λ (xs : List ℕ). take n xs) h.text ∙ take-append-le n first_header h.behind le
 
 pub summary_is : (area : List ℕ) → HasHeader area → summary_length area ≡ 22
 unfolding number_of
@@ -146,7 +147,7 @@ pub no_cut : (area : List ℕ) → HasHeader area → IsSummaryCut area → ⊥
 no_cut area h (same, inl short) = omega (arith, long area h)
 no_cut area h (same, inr short) = omega (arith, long area h, summary_is area h)
 
--- behind an open gate there is a whole batch
+-- after an open gate there is a whole batch
 pub record HasBatch (bytes : List ℕ) : Type 0 where
   pub batch : List Entry
   pub whole : IsBatch batch
@@ -175,10 +176,10 @@ no_entry_fault bytes body behind count has is_body fault =
     let one = body_unique has.batch body has.rest behind has.whole is_body.some is_body.most (sym has.text ∙ is_body.text) in
     entries_whole has.batch fault.before fault.bad has.whole.fit fault.fit (one.0 ∙ fault.text) fault.more fault.none
 
-module _ (end : ℕ) (log : List Entry) (area : List ℕ) (is : IsLog end log area) where
+module _ (end : ℕ) (log : List Entry) (area : List ℕ) (is : IsLog first_header end log area) where
   no_gate : (place : ℕ) → HasNoGate place area → ⊥
   no_gate place missing =
-      let begins = read_of end place log missing.0 area [] is missing.1 in
+      let begins = read_of first_header end place log missing.0 area [] is missing.1 in
       omega (arith, ap length begins.left, length-append (text_of begins.more) (is.gate ∷ is.behind))
 
   batch_of : (more : List (List Entry)) (bytes : List ℕ) → AllByRecursion IsBatch more → 1 ∷ bytes ≡ text_of more ++ is.gate ∷ is.behind → HasBatch bytes
@@ -195,14 +196,14 @@ module _ (end : ℕ) (log : List Entry) (area : List ℕ) (is : IsLog end log ar
   no_fault (Place place) (inr (inl (at, cut))) = no_cut area (header_of end log area is) cut
   no_fault (Place place) (inr (inr (inl missing))) = no_gate place missing
   no_fault (Place place) (inr (inr (inr f))) =
-      let begins = read_of end f.gate log f.log area (1 ∷ f.bytes) is f.read in
+      let begins = read_of first_header end f.gate log f.log area (1 ∷ f.bytes) is f.read in
       no_length_fault f.bytes (batch_of begins.more f.bytes begins.whole begins.left) f.fault
   no_fault (Summary place) (inl (at, f)) = f.other (summary_is area (header_of end log area is))
   no_fault (Summary place) (inr f) = no_difference place area (header_of end log area is) f.inside f.first
   no_fault (EntrySpot index) f =
-      let begins = read_of end f.gate log f.log area (1 ∷ f.bytes) is f.read in
+      let begins = read_of first_header end f.gate log f.log area (1 ∷ f.bytes) is f.read in
       no_entry_fault f.bytes f.body f.behind f.count (batch_of begins.more f.bytes begins.whole begins.left) f.is_body f.fault
 
-pub formatted_is_empty : IsLog 42 [] formatted.left
-unfolding front_text
-formatted_is_empty = record { gate = 0; behind = []; read = record { batches = []; whole = tt; holds = refl; text = refl; ends = refl }; closed = omega arith }
+pub empty_journal_has_no_entry : IsLog first_header 42 [] empty_journal.left
+unfolding prefix_text
+empty_journal_has_no_entry = record { gate = 0; behind = []; read = record { batches = []; whole = tt; holds = refl; text = refl; ends = refl }; closed = omega arith }

@@ -6,9 +6,9 @@ use Rattle.journal_text.specs.declared.entry.Entry.{Entry}
 use Rattle.journal_text.specs.Numbers.{number_text}
 use Rattle.journal_text.specs.Text.{Fits, entries_text}
 
--- the gate of the area, `6TJRC-1`, generation 1, and the summary of the empty history behind its length
-abbrev pub header : List ℕ
-header =
+-- the header of a new journal: the gate of the area, `6TJRC-1`, generation 1, and the summary of the empty history after its length
+abbrev pub first_header : List ℕ
+first_header =
     1 ∷ 0x36 ∷ 0x54 ∷ 0x4a ∷ 0x52 ∷ 0x43 ∷ 0x2d ∷ 0x31
     ∷ 0 ∷ 0 ∷ 0 ∷ 0 ∷ 0 ∷ 0 ∷ 0 ∷ 1
     ∷ 0 ∷ 0 ∷ 0 ∷ 22
@@ -16,12 +16,12 @@ header =
     ∷ []
 
 -- the areas of a journal without entries
-abbrev pub formatted : Areas
-formatted = record { left = header ++ 0 ∷ []; right = 0 ∷ [] }
+abbrev pub empty_journal : Areas
+empty_journal = record { left = first_header ++ 0 ∷ []; right = 0 ∷ [] }
 
--- On the way from two empty areas to these the right one comes first, so a journal never stands beside an empty area.
+-- On the way from two empty areas to these the right one comes first, so a journal is never beside an empty area.
 abbrev pub IsOnTheWay : Areas → Type 0
-IsOnTheWay image = (image.left ≡ []) ⊎ (image.right ≡ formatted.right)
+IsOnTheWay image = (image.left ≡ []) ⊎ (image.right ≡ empty_journal.right)
 
 -- 1 to 4096 bytes of whole entries
 pub record IsBatch (entries : List Entry) : Type 0 where
@@ -29,7 +29,7 @@ pub record IsBatch (entries : List Entry) : Type 0 where
   pub most : length (entries_text entries) ≤ 4096
   pub fit : AllByRecursion Fits entries
 
--- what stands behind the gate of a batch: the length of its entries, and the entries
+-- what comes after the gate of a batch: the length of its entries, and the entries
 unfoldable pub body_text : List Entry → List ℕ
 body_text entries = number_text 4 (length (entries_text entries)) ++ entries_text entries
 
@@ -40,30 +40,30 @@ tail_text entries = body_text entries ++ 0 ∷ []
 abbrev pub batch_text : List Entry → List ℕ
 batch_text entries = 1 ∷ body_text entries
 
--- the header and open batches
-unfoldable pub front_text : List (List Entry) → List ℕ
-front_text batches = header ++ flat_map batch_text batches
+-- a header and open batches
+unfoldable pub prefix_text : List ℕ → List (List Entry) → List ℕ
+prefix_text header batches = header ++ flat_map batch_text batches
 
--- an area is a front of open batches, which holds this log and ends at this place, and these bytes behind it
-pub record IsRead (end : ℕ) (log : List Entry) (area behind : List ℕ) : Type 0 where
+-- an area is this header, open batches with this log, which end at this place, and these bytes after them
+pub record IsRead (header : List ℕ) (end : ℕ) (log : List Entry) (area behind : List ℕ) : Type 0 where
   pub batches : List (List Entry)
   pub whole : AllByRecursion IsBatch batches
   pub holds : log ≡ flat_map (λ entries. entries) batches
-  pub text : area ≡ front_text batches ++ behind
-  pub ends : end ≡ length (front_text batches)
+  pub text : area ≡ prefix_text header batches ++ behind
+  pub ends : end ≡ length (prefix_text header batches)
 
--- The log of an area, which ends at the closed gate at this place. What stands behind that means nothing.
-pub record IsLog (end : ℕ) (log : List Entry) (area : List ℕ) : Type 0 where
+-- The log of an area, which ends at the closed gate at this place. What comes after that means nothing.
+pub record IsLog (header : List ℕ) (end : ℕ) (log : List Entry) (area : List ℕ) : Type 0 where
   pub gate : ℕ
   pub behind : List ℕ
-  pub read : IsRead end log area (gate ∷ behind)
+  pub read : IsRead header end log area (gate ∷ behind)
   pub closed : gate ≢ 1
 
 -- The same, where the gate may be open, but only before this batch.
-pub record MayHave (end : ℕ) (log entries : List Entry) (area : List ℕ) : Type 0 where
+pub record MayHave (header : List ℕ) (end : ℕ) (log entries : List Entry) (area : List ℕ) : Type 0 where
   pub gate : ℕ
   pub behind : List ℕ
-  pub read : IsRead end log area (gate ∷ behind)
+  pub read : IsRead header end log area (gate ∷ behind)
   pub before : gate ≡ 1 → (more : List ℕ) × (behind ≡ tail_text entries ++ more)
 
 -- the end of a log with a batch more

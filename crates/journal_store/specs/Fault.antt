@@ -1,4 +1,4 @@
--- Where an area has no reading: the first place from the left that isn't as told.
+-- Where an area has no reading: the first place from the left that isn't as the format has it.
 use Rattle.std.specs.Prelude.{◌≡◌, ◌≢◌, ◌⊎◌, ◌<◌, ◌≤◌, ◌+◌, ◌-◌, ◌^◌, ⊤, ℕ, List, [], ◌∷◌, ◌++◌, length, take, drop, min, nat_lt, if◌then◌else◌, IsTrue, Bool}
 use Rattle.std.specs.List.{AllByRecursion}
 use Rattle.edge_traits.specs.Disk.{Areas}
@@ -10,19 +10,19 @@ use Rattle.journal_store.specs.declared.fault.Spot.{Spot}
 use Rattle.journal_store.specs.declared.fault.Spot.TheVariants.{Place, Summary, Entry as EntrySpot}
 use Rattle.journal_store.specs.declared.fault.StoreFault.{StoreFault}
 use Rattle.journal_store.specs.declared.fault.StoreFault.TheVariants.{Disk, AlreadyThere, NotAJournal, NoMemory}
-use Rattle.journal_store.specs.Area.{header, IsRead}
+use Rattle.journal_store.specs.Area.{first_header, IsRead}
 
 -- ---- the header
 
 abbrev pub AgreesTo : ℕ → List ℕ → Type 0
-AgreesTo place area = take place area ≡ take place header
+AgreesTo place area = take place area ≡ take place first_header
 
 -- the first byte that isn't as the header's, or that is missing
 pub record DiffersAt (place : ℕ) (area : List ℕ) : Type 0 where
   pub agrees : AgreesTo place area
-  pub differs : take (place + 1) area ≢ take (place + 1) header
+  pub differs : take (place + 1) area ≢ take (place + 1) first_header
 
--- the length of the summary, and how many bytes stand behind it
+-- the length of the summary, and how many bytes come after it
 abbrev pub summary_length : List ℕ → ℕ
 summary_length area = number_of 4 (drop 16 area)
 
@@ -50,17 +50,17 @@ pub record HasOtherByte (place : ℕ) (area : List ℕ) : Type 0 where
 
 -- ---- the batches
 
--- no length of a batch that ends within these bytes stands at their front
+-- no length of a batch that ends within these bytes is at their start
 pub record HasNoLength (bytes : List ℕ) : Type 0 where
   pub none : (length bytes < 4) ⊎ (number_of 4 bytes ≡ 0) ⊎ (4096 < number_of 4 bytes) ⊎ (length bytes < 4 + number_of 4 bytes)
 
--- the body of a batch and what stands behind it
+-- the body of a batch and what comes after it
 pub record IsBody (body behind bytes : List ℕ) : Type 0 where
   pub text : bytes ≡ number_text 4 (length body) ++ body ++ behind
   pub some : 1 ≤ length body
   pub most : length body ≤ 4096
 
--- behind so many entries of a body there is one that has no reading
+-- after `count` entries of a body there is one that has no reading
 pub record HasNoEntry (count : ℕ) (body : List ℕ) : Type 0 where
   pub before : List Entry
   pub counts : count ≡ length before
@@ -72,14 +72,14 @@ pub record HasNoEntry (count : ℕ) (body : List ℕ) : Type 0 where
 
 -- the gate at this place is missing
 abbrev pub HasNoGate : ℕ → List ℕ → Type 0
-HasNoGate place area = (log : List Entry) × IsRead place log area []
+HasNoGate place area = (log : List Entry) × IsRead first_header place log area []
 
--- behind the open gate just before this place there is no length
+-- after the open gate just before this place there is no length
 pub record HasNoLengthAt (place : ℕ) (area : List ℕ) : Type 0 where
   pub gate : ℕ
   pub log : List Entry
   pub bytes : List ℕ
-  pub read : IsRead gate log area (1 ∷ bytes)
+  pub read : IsRead first_header gate log area (1 ∷ bytes)
   pub next : place ≡ gate + 1
   pub fault : HasNoLength bytes
 
@@ -88,7 +88,7 @@ pub record HasNoEntryAt (index : ℕ) (area : List ℕ) : Type 0 where
   pub gate : ℕ
   pub log : List Entry
   pub bytes : List ℕ
-  pub read : IsRead gate log area (1 ∷ bytes)
+  pub read : IsRead first_header gate log area (1 ∷ bytes)
   pub body : List ℕ
   pub behind : List ℕ
   pub is_body : IsBody body behind bytes
@@ -106,7 +106,7 @@ HasFault area (EntrySpot index) = HasNoEntryAt index area
 
 -- ---- the causes of faults
 
--- why the entries of a body weren't read, behind so many of the log
+-- why the entries of a body weren't read, after `length` entries of the log
 abbrev pub BodyCause : ℕ → List ℕ → StoreFault → Type 0
 BodyCause length body (NotAJournal (EntrySpot index)) = (count : ℕ) × HasNoEntry count body × (index ≡ min (length + count) (2 ^ 32 - 1))
 BodyCause length body (NotAJournal _) = ⊥
@@ -143,9 +143,9 @@ FormatCause tells areas before now (AlreadyThere n) = IsTrue tells → IsThere a
 FormatCause tells areas before now (NotAJournal spot) = ⊥
 FormatCause tells areas before now NoMemory = ⊥
 
--- why opening stopped: the disk's count rose to this, the left area has no reading, or memory was short
-abbrev pub StartCause : Bool → Areas → ℕ → ℕ → StoreFault → Type 0
-StartCause tells areas before now (Disk count) = Rose before now × (count ≡ now)
-StartCause tells areas before now (AlreadyThere n) = ⊥
-StartCause tells areas before now (NotAJournal spot) = IsTrue tells → HasFault areas.left spot
-StartCause tells areas before now NoMemory = ⊤
+-- why opening stopped: the disk's count rose to this, the area has no reading, or memory was short
+abbrev pub StartCause : Bool → List ℕ → ℕ → ℕ → StoreFault → Type 0
+StartCause tells area before now (Disk count) = Rose before now × (count ≡ now)
+StartCause tells area before now (AlreadyThere n) = ⊥
+StartCause tells area before now (NotAJournal spot) = IsTrue tells → HasFault area spot
+StartCause tells area before now NoMemory = ⊤

@@ -1,6 +1,6 @@
 //! Reading an area: its header, its batches, and where it has no reading.
 ghost use Rattle.std.specs.Prelude.{◌≡◌, ◌≢◌, ◌≤◌, ◌<◌, ◌+◌, List, length, take, drop, IfOk, IfErr};
-ghost use Rattle.journal_store.specs.Area.{header, IsLog};
+ghost use Rattle.journal_store.specs.Area.{first_header, IsLog};
 ghost use Rattle.journal_store.specs.Fault.{AgreesTo, DiffersAt, summary_length, HasFault, AreaCause};
 ghost use Rattle.journal_store.specs.Store.{end_limit};
 
@@ -10,15 +10,15 @@ use byteorder::{BigEndian, ByteOrder};
 use journal_text::Entry;
 use std::alloc::Global;
 
-/// An area without batches: the gate of the area, its name, generation 1, the summary of the empty history behind its length,
+/// An area without batches: the gate of the area, its name, generation 1, the summary of the empty history after its length,
 /// and a closed gate.
 pub const EMPTY: [u8; 43] =
     *b"\x016TJRC-1\0\0\0\0\0\0\0\x01\0\0\0\x16\0\0\0\0\0\0\0\0\0\0\0\0\0\0\0\0\0\0\0\0\0\0\0";
 
-/// What stands before the first gate.
+/// What comes before the first gate.
 const HEADER_LEN: usize = 42;
 
-/// How many bytes at the front are the header's.
+/// How many bytes at the start are the header's.
 fn agreement(area: &[u8]) -> usize
     ensures most { result ≤ 42 }
     ensures agrees { AgreesTo result area.now }
@@ -41,7 +41,7 @@ fn summary_size(area: &[u8]) -> u64
 
 /// Whether the area has the header.
 fn check_header(area: &[u8]) -> Result<(), Spot>
-    ensures found { IfOk result (λ _. take 42 area.now ≡ header) }
+    ensures found { IfOk result (λ _. take 42 area.now ≡ first_header) }
     ensures fault { IfErr result (HasFault area.now) }
 {
     let same = agreement(area);
@@ -66,8 +66,8 @@ fn check_header(area: &[u8]) -> Result<(), Spot>
 
 /// The place of the closed gate, and the entries of the batches before it.
 fn read_batches(alloc: Global, area: &[u8]) -> Result<(u64, Vec<Entry>), StoreFault>
-    requires { take 42 area.now ≡ header }
-    ensures found { IfOk result (λ read. IsLog read.0 read.1.items area.now) }
+    requires { take 42 area.now ≡ first_header }
+    ensures found { IfOk result (λ read. IsLog first_header read.0 read.1.items area.now) }
     ensures fault { IfErr result (AreaCause area.now) }
 {
     let mut log = Vec::new(alloc);
@@ -88,7 +88,7 @@ fn read_batches(alloc: Global, area: &[u8]) -> Result<(u64, Vec<Entry>), StoreFa
 
 /// The place of the closed gate at which the log of the area ends, and the log.
 pub fn read_area(alloc: Global, area: &[u8]) -> Result<(u64, Vec<Entry>), StoreFault>
-    ensures found { IfOk result (λ read. IsLog read.0 read.1.items area.now) }
+    ensures found { IfOk result (λ read. IsLog first_header read.0 read.1.items area.now) }
     ensures end { IfOk result (λ read. read.0 ≤ end_limit (length read.1.items)) }
     ensures fault { IfErr result (AreaCause area.now) }
 {

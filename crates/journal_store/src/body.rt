@@ -1,4 +1,4 @@
-//! A batch behind its gate.
+//! A batch after its gate.
 ghost use Rattle.std.specs.Prelude.{◌≡◌, ◌++◌, List, length, MatchOption, OnOk, IfErr};
 ghost use Rattle.std.specs.List.{AllByRecursion};
 ghost use Rattle.journal_text.specs.declared.entry.Entry.{Entry};
@@ -9,7 +9,7 @@ use crate::{Spot, StoreFault};
 use byteorder::{BigEndian, ByteOrder};
 use journal_text::{Entry, read_entry};
 
-/// The entries of the batch at the front of these bytes, and what stands behind them.
+/// The entries of the batch at the start of these bytes, and what comes after them.
 pub fn split_body(bytes: &[u8]) -> Option<(&[u8], &[u8])>
     ensures { MatchOption result (HasNoLength bytes.now) (λ parts. IsBody parts.0.now parts.1.now bytes.now) }
 {

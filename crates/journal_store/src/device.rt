@@ -1,7 +1,7 @@
 //! What the journal does to its disk, in runs of calls.
 ghost use Rattle.std.specs.Prelude.{◌≡◌, ◌≤◌, ◌+◌, length, get_or, IfOk, IfErr, OnOk, IsTrue};
-ghost use Rattle.edge_traits.specs.Disk.{bytes_of, Overwrites, Torn, Changes, Follows, LeavesNoMore, LeavesOnly, OnlyIn};
-ghost use Rattle.edge_traits.specs.declared.names.Area.TheVariants.{Left};
+ghost use Rattle.edge_traits.specs.Disk.{bytes_of, Overwrites, Torn, Changes, Follows, OnlyIn};
+ghost use Rattle.edge_traits.specs.Runs.{IsSameDisk, CrashLeaves, IsUntouched};
 ghost use Rattle.edge_traits.specs.Faults.{HasCause};
 ghost use Rattle.journal_store.specs.Store.{TornFrom};
 ghost use Rattle.journal_store.specs.Fault.{LoadCause};
@@ -19,62 +19,55 @@ pub fn put<D: Disk>(disk: &mut D, area: Area, at: u64, bytes: &[u8]) -> Result<(
     ensures same { IsTrue (D.tells disk.old) → Changes area (Torn at (length bytes.now)) (D.seen disk.old) (D.seen disk.new) }
     ensures crash { IsTrue (D.tells disk.old)
         → Follows (Changes area (Torn at (length bytes.now))) (D.may_leave disk.old) (D.may_leave disk.new) }
-    ensures any_moment { IsTrue (D.tells disk.old) → LeavesOnly D.moment D.left_since disk.old disk.new
-        (TornFrom (D.may_leave disk.old) area at (length bytes.now)) }
-    ensures tells { D.tells disk.new ≡ D.tells disk.old }
+    ensures any_moment { CrashLeaves D.Disk disk.old disk.new (TornFrom (D.may_leave disk.old) area at (length bytes.now)) }
+    ensures same_disk { IsSameDisk D.Disk disk.old disk.new }
     ensures cause { HasCause (D.fault_count disk.old) (D.fault_count disk.new) result }
 {
     disk.write_at(area, at, bytes)?;
     disk.sync(area)
 }
 
-/// The byte at this place of the left area, of which a crash leaves what a read gives.
-pub fn settled_byte<D: Disk>(disk: &mut D, at: u64) -> Result<u8, Failed>
-    requires { IsTrue (D.tells disk.old) → at + 1 ≤ length (D.seen disk.old).left }
-    ensures byte { IsTrue (D.tells disk.old) → IfOk result (λ byte. byte ≡ get_or (D.seen disk.old).left at 0) }
-    ensures durable { IsTrue (D.tells disk.old) → OnOk result (OnlyIn Left (D.seen disk.new) (D.may_leave disk.new)) }
-    ensures seen { IsTrue (D.tells disk.old) → D.seen disk.new ≡ D.seen disk.old }
-    ensures crash { IsTrue (D.tells disk.old) → LeavesNoMore (D.may_leave disk.old) (D.may_leave disk.new) }
-    ensures any_moment { IsTrue (D.tells disk.old) → LeavesOnly D.moment D.left_since disk.old disk.new (D.may_leave disk.old) }
-    ensures tells { D.tells disk.new ≡ D.tells disk.old }
+/// The byte at this place of the area, of which a crash leaves what a read gives.
+pub fn settled_byte<D: Disk>(disk: &mut D, area: Area, at: u64) -> Result<u8, Failed>
+    requires { IsTrue (D.tells disk.old) → at + 1 ≤ length (bytes_of (D.seen disk.old) area) }
+    ensures byte { IsTrue (D.tells disk.old) → IfOk result (λ byte. byte ≡ get_or (bytes_of (D.seen disk.old) area) at 0) }
+    ensures durable { IsTrue (D.tells disk.old) → OnOk result (OnlyIn area (D.seen disk.new) (D.may_leave disk.new)) }
+    ensures untouched { IsUntouched D.Disk disk.old disk.new }
+    ensures same { IsSameDisk D.Disk disk.old disk.new }
     ensures cause { HasCause (D.fault_count disk.old) (D.fault_count disk.new) result }
 {
     let mut byte = [0];
-    disk.sync(Area::Left)?;
-    disk.read_at(Area::Left, at, &mut byte)?;
+    disk.sync(area)?;
+    disk.read_at(area, at, &mut byte)?;
     Ok(byte[0])
 }
 
-/// The length of the left area, of which a crash leaves what a read gives.
-fn settled_len<D: Disk>(disk: &mut D) -> Result<u64, Failed>
-    ensures length { IsTrue (D.tells disk.old) → IfOk result (λ n. n ≡ length (D.seen disk.old).left) }
-    ensures durable { IsTrue (D.tells disk.old) → OnOk result (OnlyIn Left (D.seen disk.new) (D.may_leave disk.new)) }
-    ensures seen { IsTrue (D.tells disk.old) → D.seen disk.new ≡ D.seen disk.old }
-    ensures crash { IsTrue (D.tells disk.old) → LeavesNoMore (D.may_leave disk.old) (D.may_leave disk.new) }
-    ensures any_moment { IsTrue (D.tells disk.old) → LeavesOnly D.moment D.left_since disk.old disk.new (D.may_leave disk.old) }
-    ensures tells { D.tells disk.new ≡ D.tells disk.old }
+/// The length of the area, of which a crash leaves what a read gives.
+fn settled_len<D: Disk>(disk: &mut D, area: Area) -> Result<u64, Failed>
+    ensures length { IsTrue (D.tells disk.old) → IfOk result (λ n. n ≡ length (bytes_of (D.seen disk.old) area)) }
+    ensures durable { IsTrue (D.tells disk.old) → OnOk result (OnlyIn area (D.seen disk.new) (D.may_leave disk.new)) }
+    ensures untouched { IsUntouched D.Disk disk.old disk.new }
+    ensures same { IsSameDisk D.Disk disk.old disk.new }
     ensures cause { HasCause (D.fault_count disk.old) (D.fault_count disk.new) result }
 {
-    disk.sync(Area::Left)?;
-    disk.len(Area::Left)
+    disk.sync(area)?;
+    disk.len(area)
 }
 
-/// All of the left area, of which a crash leaves what was read.
-pub fn load<D: Disk>(alloc: Global, disk: &mut D) -> Result<Vec<u8>, StoreFault>
-    ensures bytes { IsTrue (D.tells disk.old) → IfOk result (λ bytes. bytes.items ≡ (D.seen disk.old).left) }
-    ensures durable { IsTrue (D.tells disk.old) → OnOk result (OnlyIn Left (D.seen disk.new) (D.may_leave disk.new)) }
-    ensures seen { IsTrue (D.tells disk.old) → D.seen disk.new ≡ D.seen disk.old }
-    ensures crash { IsTrue (D.tells disk.old) → LeavesNoMore (D.may_leave disk.old) (D.may_leave disk.new) }
-    ensures any_moment { IsTrue (D.tells disk.old) → LeavesOnly D.moment D.left_since disk.old disk.new (D.may_leave disk.old) }
-    ensures tells { D.tells disk.new ≡ D.tells disk.old }
-    ensures later { D.fault_count disk.old ≤ D.fault_count disk.new }
+/// All of the area, of which a crash leaves what was read.
+pub fn load<D: Disk>(alloc: Global, disk: &mut D, area: Area) -> Result<Vec<u8>, StoreFault>
+    ensures bytes { IsTrue (D.tells disk.old) → IfOk result (λ bytes. bytes.items ≡ bytes_of (D.seen disk.old) area) }
+    ensures durable { IsTrue (D.tells disk.old) → OnOk result (OnlyIn area (D.seen disk.new) (D.may_leave disk.new)) }
+    ensures untouched { IsUntouched D.Disk disk.old disk.new }
+    ensures same { IsSameDisk D.Disk disk.old disk.new }
+    ensures no_fault { OnOk result (D.fault_count disk.new ≡ D.fault_count disk.old) }
     ensures fault { IfErr result (LoadCause (D.fault_count disk.old) (D.fault_count disk.new)) }
 {
-    let Ok(len) = settled_len(disk) else {
+    let Ok(len) = settled_len(disk, area) else {
         return Err(StoreFault::Disk(disk.faults()));
     };
     let mut bytes = vec![in alloc; 0; len as usize]?;
-    let Ok(()) = disk.read_at(Area::Left, 0, &mut bytes) else {
+    let Ok(()) = disk.read_at(area, 0, &mut bytes) else {
         return Err(StoreFault::Disk(disk.faults()));
     };
     Ok(bytes)

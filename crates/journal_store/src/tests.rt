@@ -1,5 +1,5 @@
 //! The journal over a disk in memory. Areas are worked out by hand from their description.
-ghost use Rattle.std.specs.Prelude.{◌≡◌, ◌≢◌, ◌<◌, ◌≤◌, ◌+◌, ◌^◌, [], List, length, IfOk};
+ghost use Rattle.std.specs.Prelude.{◌≡◌, ◌≢◌, ◌<◌, ◌≤◌, ◌+◌, ◌^◌, [], ℕ, List, length, IfOk};
 ghost use Rattle.edge_memory.specs.MemDisk.{may_leave_of};
 ghost use Rattle.journal_text.specs.declared.entry.Entry.{Entry};
 ghost use Rattle.journal_text.specs.Text.{entries_text};
@@ -9,7 +9,7 @@ ghost use Rattle.journal_store.specs.Store.{pending_of, reach_of, Stands, IsPend
 
 use crate::body::read_entries;
 use crate::{Journal, Settled, Spot, StoreFault, Written, area_laws};
-use edge_memory::MemDisk;
+use edge_memory::{FailingCall, MemDisk, Part};
 use edge_traits::{Area, Disk, PledgeId};
 use journal_text::Entry;
 use std::alloc::Global;
@@ -33,7 +33,7 @@ fn entries() -> [Entry; 3] {
     ]
 }
 
-/// These bytes of the area, and this gate behind them.
+/// These bytes of the area, and this gate after them.
 fn cut_area(alloc: Global, end: usize, gate: u8) -> Result<Vec<u8>, Fail>
     requires { end ≤ 96 }
 {
@@ -46,6 +46,26 @@ fn cut_area(alloc: Global, end: usize, gate: u8) -> Result<Vec<u8>, Fail>
 fn disk_of(alloc: Global, left: &[u8], failing: &[u64], calls: usize) -> Result<MemDisk, Fail> {
     Ok(MemDisk::new(alloc, left, b"\x00", failing, calls, 256)?)
 }
+
+/// The same, where each call that fails does this part of its work.
+fn disk_with(
+    alloc: Global,
+    left: &[u8],
+    failing: &[u64],
+    part: Part,
+    calls: usize,
+) -> Result<MemDisk, Fail> {
+    let mut list = Vec::new(alloc);
+    for number in failing {
+        list.push(FailingCall {
+            number: *number,
+            part,
+        })?;
+    }
+    Ok(MemDisk::with_failing(alloc, left, b"\x00", &list, calls, 256)?)
+}
+
+const PARTS: [Part; 3] = [Part::Nothing, Part::Half, Part::All];
 
 fn content(alloc: Global, disk: &mut MemDisk, area: Area) -> Result<Vec<u8>, Fail> {
     let len = disk.len(area)?;
@@ -67,7 +87,7 @@ type Opened = (Journal<MemDisk>, Vec<Entry>);
 
 /// Opens a journal whose log is short.
 fn opened(rt: &impl Abort, alloc: Global, disk: MemDisk) -> Result<Opened, Fail>
-    ensures stands { IfOk result (λ opened. (log : List Entry) × Stands may_leave_of opened.0 log) }
+    ensures stands { IfOk result (λ opened. (header : List ℕ) × (log : List Entry) × Stands may_leave_of header opened.0 log) }
     ensures nothing_pending { IfOk result (λ opened. pending_of opened.0 ≡ []) }
     ensures room { IfOk result (λ opened. reach_of opened.0 < 2 ^ 32) }
 {
@@ -102,14 +122,14 @@ fn spot_of(alloc: Global, area: &[u8]) -> Result<Option<Spot>, Fail> {
 
 /// Appends a batch to a journal with nothing pending.
 fn append(alloc: Global, journal: &mut Journal<MemDisk>, batch: &[u8]) -> Result<Written, Fail>
-    requires stands { (log : List Entry) × Stands may_leave_of journal.old log }
+    requires stands { (header : List ℕ) × (log : List Entry) × Stands may_leave_of header journal.old log }
     requires nothing_pending { pending_of journal.old ≡ [] }
     requires room { reach_of journal.old < 2 ^ 62 }
     requires some { 1 ≤ length batch.now }
     requires most { length batch.now ≤ 4096 }
-    ensures stands { IfOk result (λ written. written ≡ Done → (log : List Entry) × Stands may_leave_of journal.new log) }
+    ensures stands { IfOk result (λ written. written ≡ Done → (header : List ℕ) × (log : List Entry) × Stands may_leave_of header journal.new log) }
     ensures pending { IfOk result (λ _. pending_of journal.new ≢ []
-        → (log : List Entry) × (entries : List Entry) × IsPending may_leave_of journal.new log entries) }
+        → (header : List ℕ) × (log : List Entry) × (entries : List Entry) × IsPending may_leave_of header journal.new log entries) }
     ensures nothing_pending { IfOk result (λ written. written ≡ Done → pending_of journal.new ≡ []) }
     ensures reach { IfOk result (λ _. reach_of journal.new ≡ reach_of journal.old + 5 + length batch.now) }
 {
@@ -124,10 +144,10 @@ fn append(alloc: Global, journal: &mut Journal<MemDisk>, batch: &[u8]) -> Result
 /// Settles, and writes the batch again where its gate is closed.
 fn settle(journal: &mut Journal<MemDisk>) -> Settled
     requires pending { pending_of journal.old ≢ []
-        → (log : List Entry) × (entries : List Entry) × IsPending may_leave_of journal.old log entries }
+        → (header : List ℕ) × (log : List Entry) × (entries : List Entry) × IsPending may_leave_of header journal.old log entries }
     requires room { reach_of journal.old < 2 ^ 63 }
     ensures pending { pending_of journal.new ≢ []
-        → (log : List Entry) × (entries : List Entry) × IsPending may_leave_of journal.new log entries }
+        → (header : List ℕ) × (log : List Entry) × (entries : List Entry) × IsPending may_leave_of header journal.new log entries }
     ensures room { reach_of journal.new < 2 ^ 63 }
 {
     match journal.settle() {
@@ -187,7 +207,7 @@ fn a_crash_leaves_the_log_without_or_with_the_batch(rt: HostRuntime) -> Result<(
     assert_eq!(rt; append(alloc, &mut journal, &AREA[65..95])?, Written::Done);
     let disk = journal.close();
     for moment in 0..8 {
-        for pick in 0..4 {
+        for pick in 0..64 {
             let count = count_of(&rt, alloc, disk.image(alloc, moment, pick)?)?;
             let with = moment == 7 || moment == 6 && pick == 1;
             let may_have = with || moment == 6 && 1 < pick;
@@ -200,12 +220,11 @@ fn a_crash_leaves_the_log_without_or_with_the_batch(rt: HostRuntime) -> Result<(
 
 type Case = (&'static [u64], &'static [Settled]);
 
-/// Calls that fail while a batch is appended, and the answers of settling until it is durable. The first three calls open
-/// the journal.
-const FAILING: [Case; 9] = [
+/// Calls that fail while a batch is appended, and the answers of settling until it is durable, whatever part of their work
+/// these calls do. The first three calls open the journal.
+const FAILING: [Case; 8] = [
     (&[3], &[Settled::Again]),
     (&[4], &[Settled::Again]),
-    (&[5], &[Settled::Again]),
     (&[6], &[Settled::Durable]),
     (&[4, 5], &[Settled::Failed, Settled::Again]),
     (&[4, 6], &[Settled::Failed, Settled::Again]),
@@ -214,11 +233,18 @@ const FAILING: [Case; 9] = [
     (&[4, 10], &[Settled::Again, Settled::Durable]),
 ];
 
-/// Appends a batch of which calls fail, and settles it.
-fn settled(rt: &impl Abort, alloc: Global, case: Case) -> Result<MemDisk, Fail> {
+/// The write of the gate fails, and its byte is there where it did all. Half of one byte is nothing.
+const GATE: [(Part, Case); 3] = [
+    (Part::Nothing, (&[5], &[Settled::Again])),
+    (Part::Half, (&[5], &[Settled::Again])),
+    (Part::All, (&[5], &[Settled::Durable])),
+];
+
+/// Appends a batch of which calls fail after this part of their work, and settles it.
+fn settled(rt: &impl Abort, alloc: Global, part: Part, case: Case) -> Result<MemDisk, Fail> {
     let (failing, answers) = case;
     let area = cut_area(alloc, 60, 0)?;
-    let disk = disk_of(alloc, &area, failing, 32)?;
+    let disk = disk_with(alloc, &area, failing, part, 32)?;
     let (mut journal, _) = opened(rt, alloc, disk)?;
     let written = append(alloc, &mut journal, &AREA[65..95])?;
     assert_eq!(rt; written, Written::Failed);
@@ -230,17 +256,34 @@ fn settled(rt: &impl Abort, alloc: Global, case: Case) -> Result<MemDisk, Fail> 
     Ok(journal.close())
 }
 
+/// Each image of a batch that failed and was settled has the log without or with it, and at the end it has it.
+fn is_whole_or_not(rt: &impl Abort, alloc: Global, part: Part, case: Case) -> Result<(), Fail> {
+    let mut disk = settled(rt, alloc, part, case)?;
+    for moment in 0..16 {
+        for pick in 0..8 {
+            let count = count_of(rt, alloc, disk.image(alloc, moment, pick)?)?;
+            assert!(rt; count == 1 || count == 3, "at {moment}, {pick}");
+        }
+    }
+    has(rt, alloc, &mut disk, &AREA)?;
+    assert_eq!(rt; count_of(rt, alloc, disk)?, 3);
+    Ok(())
+}
+
 #[test]
 fn a_batch_that_failed_is_settled(rt: HostRuntime) -> Result<(), Fail> {
-    let alloc = rt.alloc();
     for case in FAILING {
-        let mut disk = settled(&rt, alloc, case)?;
-        for moment in 0..16 {
-            let count = count_of(&rt, alloc, disk.image(alloc, moment, 2)?)?;
-            assert!(rt; count == 1 || count == 3, "at {moment}");
+        for part in PARTS {
+            is_whole_or_not(&rt, rt.alloc(), part, case)?;
         }
-        has(&rt, alloc, &mut disk, &AREA)?;
-        assert_eq!(rt; count_of(&rt, alloc, disk)?, 3);
+    }
+    Ok(())
+}
+
+#[test]
+fn a_gate_whose_write_failed_may_be_open(rt: HostRuntime) -> Result<(), Fail> {
+    for (part, case) in GATE {
+        is_whole_or_not(&rt, rt.alloc(), part, case)?;
     }
     Ok(())
 }
@@ -259,11 +302,13 @@ fn settling_nothing_calls_nothing(rt: HostRuntime) -> Result<(), Fail> {
 fn each_call_of_opening_may_fail(rt: HostRuntime) -> Result<(), Fail> {
     let alloc = rt.alloc();
     for place in 0..3 {
-        match Journal::start(alloc, disk_of(alloc, &AREA, &[place], 8)?) {
-            Ok(_opened) => assert!(rt; false, "opened"),
-            Err((disk, fault)) => {
-                assert_eq!(rt; (fault, disk.faults()), (StoreFault::Disk(1), 1));
-                assert_eq!(rt; count_of(&rt, alloc, disk)?, 3);
+        for part in PARTS {
+            match Journal::start(alloc, disk_with(alloc, &AREA, &[place], part, 8)?) {
+                Ok(_opened) => assert!(rt; false, "opened"),
+                Err((disk, fault)) => {
+                    assert_eq!(rt; (fault, disk.faults()), (StoreFault::Disk(1), 1));
+                    assert_eq!(rt; count_of(&rt, alloc, disk)?, 3);
+                }
             }
         }
     }
@@ -285,7 +330,7 @@ fn a_cut_area_is_no_journal(rt: HostRuntime) -> Result<(), Fail> {
     Ok(())
 }
 
-/// A byte of the area that is another, and what is told.
+/// A byte of the area that is another, and what is reported.
 const SPOILT: [(usize, u8, Option<Spot>); 19] = [
     // the gate of the area, its name, its generation
     (0, 2, Some(Spot::Place(0))),
@@ -324,7 +369,7 @@ fn a_spoilt_area_has_its_spot(rt: HostRuntime) -> Result<(), Fail> {
     Ok(())
 }
 
-/// An area with one batch of this length, of so many entries of 13 bytes and of 17.
+/// An area with one batch of this length, of `few` entries of 13 bytes and `more` of 17.
 fn one_batch(alloc: Global, size: &[u8], few: usize, more: usize) -> Result<Vec<u8>, Fail> {
     let mut bytes = cut_area(alloc, 42, 1)?;
     bytes.extend_from_slice(size)?;

@@ -15,7 +15,7 @@ use Rattle.journal_text.specs.Reading.{place, number_at, bytes_at, list_at, id_o
 use Rattle.journal_text.proofs.Fields.{IsBytes, IsBytes-rest, ok_is, finished, err_is_not_ok, Taken, Taken-then, Taken-byte, IsField, step, then_again, last_again, number2, number4, number5, number8, bytes, same}
 use Rattle.journal_text.proofs.Parts.{keys, reason, settings}
 
--- the entry's spelling was taken from the front
+-- the entry's spelling was taken from the start
 abbrev pub TakesEntry : List ℕ → Entry → List ℕ → Type 0
 TakesEntry input e rest = Taken input (entry_text e) rest × Fits e
 
@@ -241,14 +241,14 @@ entry_again end (Release time id) rest fit = release_again end time id rest fit
 pub entry : IsField entry_at entry_text Fits
 entry = record { takes = entry_takes; again = entry_again }
 
--- two entries at the front of the same bytes are one
+-- two entries at the start of the same bytes are one
 pub one_spelling : (e f : Entry) (x y : List ℕ) → Fits e → Fits f → entry_text e ++ x ≡ entry_text f ++ y → (e ≡ f) × (x ≡ y)
 one_spelling e f x y fit fit' is =
     let read = sym (entry_again 0 e x fit) ∙ ap (entry_at 0) is ∙ entry_again 0 f y fit' in
     let pair = ok_is (e, x) (f, y) read in
     (ap (λ (p : Entry × List ℕ). p.0) pair, ap (λ (p : Entry × List ℕ). p.1) pair)
 
--- an entry that was read from the front, and how many bytes it took
+-- an entry that was read from the start, and how many bytes it took
 pub record IsSized (input : List ℕ) (e : Entry) (rest : List ℕ) : Type 0 where
   pub fits : Fits e
   pub size : length input - length rest ≡ length (entry_text e)
@@ -269,14 +269,14 @@ sized input e rest fits is =
       parts = t.0.parts;
     }
 
--- what is spelled at the front is what was read
+-- what is spelled at the start is what was read
 pub only_entry : (input : List ℕ) (e f : Entry) (rest more : List ℕ) → entry_at (length input) input ≡ Ok (e, rest) → Fits f → input ≡ entry_text f ++ more
     → (e ≡ f) × (rest ≡ more)
 only_entry input e f rest more is fit spelled =
     let pair = ok_is (e, rest) (f, more) (sym is ∙ ap (entry_at (length input)) spelled ∙ entry_again (length input) f more fit) in
     (ap (λ (p : Entry × List ℕ). p.0) pair, ap (λ (p : Entry × List ℕ). p.1) pair)
 
--- nothing is spelled at the front of what has a fault
+-- nothing is spelled at the start of what has a fault
 pub no_entry : (input : List ℕ) (at : ℕ) (f : Entry) (more : List ℕ) → entry_at (length input) input ≡ Err at → Fits f → input ≡ entry_text f ++ more → ⊥
 no_entry input at f more is fit spelled =
     err_is_not_ok at (f, more) (sym is ∙ ap (entry_at (length input)) spelled ∙ entry_again (length input) f more fit)

@@ -47,7 +47,7 @@ pub guard_ok : {A : Type 0} (b : Bool) (d : ℕ) (r : Result A ℕ) (y : A) → 
 guard_ok true d r y e = absurd cc
 guard_ok false d r y e = (refl, e)
 
--- ---- what was taken from the front
+-- ---- what was taken from the start
 
 pub record Taken (bytes text rest : List ℕ) : Type 0 where
   pub parts : bytes ≡ text ++ rest
@@ -65,7 +65,7 @@ pub record IsField {A : Type 0} (read : ℕ → List ℕ → Result (A × List �
   pub again : (end : ℕ) (x : A) (rest : List ℕ) → Fits x → read end (text x ++ rest) ≡ Ok (x, rest)
 
 module _ {A B : Type 0} (read : ℕ → List ℕ → Result (A × List ℕ) ℕ) (text : A → List ℕ) (Fits : A → Type 0) (field : IsField read text Fits) where
-  -- a field and what is read behind it
+  -- a field and what is read after it
   pub record Step (bytes : List ℕ) (k : A × List ℕ → Result B ℕ) (y : B) : Type 0 where
     pub value : A
     pub rest : List ℕ
@@ -79,7 +79,7 @@ module _ {A B : Type 0} (read : ℕ → List ℕ → Result (A × List ℕ) ℕ)
       let t = field.takes end bytes b.0.0 b.0.1 h b.1 in
       record { value = b.0.0; rest = b.0.1; taken = t.0; fits = t.1; on = b.2 }
 
-  -- a spelled field with more behind it
+  -- a spelled field with more after it
   pub then_again : (end : ℕ) (x : A) (more rest : List ℕ) (k : A × List ℕ → Result B ℕ) → Fits x → (read end ((text x ++ more) ++ rest) >>= k) ≡ k (x, more ++ rest)
   then_again end x more rest k fits = rw (append_assoc (text x) more rest, field.again end x (more ++ rest) fits) refl
 
@@ -120,9 +120,9 @@ pub length-number_text : (size n : ℕ) → length (number_text size n) ≡ size
 unfolding number_text
 length-number_text size n = length-bytes_high_first size n
 
-number_of-front : (size : ℕ) (front rest : List ℕ) → size ≤ length front → number_of size (front ++ rest) ≡ number_of size front
+number_of-front : (size : ℕ) (prefix rest : List ℕ) → size ≤ length prefix → number_of size (prefix ++ rest) ≡ number_of size prefix
 unfolding number_of
-number_of-front size front rest le = big_from-append size front rest le
+number_of-front size prefix rest le = big_from-append size prefix rest le
 
 number_of-lt : (size : ℕ) (bytes : List ℕ) → IsBytes bytes → number_of size bytes < 256 ^ size
 unfolding number_of
@@ -139,8 +139,8 @@ number_takes size wide end bytes n rest fits e =
     let long : size ≤ length bytes = ltb-false _ _ g.0 in
     let whole = take-append-drop size bytes in
     let len : length (take size bytes) ≡ size = omega (arith, length-take size bytes) in
-    let front : number_of size bytes ≡ number_of size (take size bytes) = ap (number_of size) (sym whole) ∙ number_of-front size (take size bytes) (drop size bytes) (omega arith) in
-    let text : number_text size (number_of size bytes) ≡ take size bytes = ap (number_text size) front ∙ wide (take size bytes) len (IsBytes-take size bytes fits) in
+    let prefix : number_of size bytes ≡ number_of size (take size bytes) = ap (number_of size) (sym whole) ∙ number_of-front size (take size bytes) (drop size bytes) (omega arith) in
+    let text : number_text size (number_of size bytes) ≡ take size bytes = ap (number_text size) prefix ∙ wide (take size bytes) len (IsBytes-take size bytes fits) in
     let pair = ok_is (number_of size bytes, drop size bytes) (n, rest) g.1 in
     let taken : Taken bytes (number_text size (number_of size bytes)) (drop size bytes)
     = record { parts = sym whole ∙ ap (λ (xs : List ℕ). xs ++ drop size bytes) (sym text); rest_fits = IsBytes-drop size bytes fits } in
@@ -170,7 +170,7 @@ number5 = number 5 wide5
 pub number8 : IsNumber 8
 number8 = number 8 wide8
 
--- ---- bytes as they stand
+-- ---- bytes as they are
 
 abbrev pub same : List ℕ → List ℕ
 same bytes = bytes

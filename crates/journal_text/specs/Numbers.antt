@@ -1,4 +1,4 @@
--- Numbers in so many bytes, the most significant byte first.
+-- Numbers in a given count of bytes, the most significant byte first.
 use Rattle.std.specs.Prelude.{ℕ, List}
 use Rattle.std.specs.Int.{bytes_high_first}
 use Rattle.byteorder.specs.Endian.{big_number}

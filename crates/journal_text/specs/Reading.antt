@@ -33,7 +33,7 @@ abbrev pub bytes_at : ℕ → ℕ → List ℕ → Result (List ℕ × List ℕ)
 bytes_at size end bytes =
     if nat_lt (length bytes) size then Err (place end bytes) else Ok (take size bytes, drop size bytes)
 
--- the rate and the address behind these flags, which stand at this place
+-- the rate and the address after these flags, which are at this place
 abbrev pub options_by : ℕ → ℕ → ℕ → List ℕ → Result ((Option ℕ × Option (List ℕ)) × List ℕ) ℕ
 options_by flags at end bytes =
     if flags == 0 then Ok ((None, None), bytes)
@@ -46,13 +46,13 @@ unfoldable pub options_at : ℕ → List ℕ → Result ((Option ℕ × Option (
 options_at end [] = Err (place end [])
 options_at end (flags ∷ bytes) = options_by flags (place end (flags ∷ bytes)) end bytes
 
--- so many items of one size, each of its bytes
+-- `n` items of one size, each of its bytes
 abbrev pub items_at : {X : Type 0} → (List ℕ → X) → ℕ → ℕ → ℕ → List ℕ → Result (List X × List ℕ) ℕ
 items_at of size zero end bytes = Ok ([], bytes)
 items_at of size (suc count) end bytes =
     bytes_at size end bytes >>= λ item. (items_at of size count end item.1 >>= λ rest. Ok (of item.0 ∷ rest.0, rest.1))
 
--- a count, at most so great, and so many items
+-- a count, which is at most the limit, and that many items
 unfoldable pub list_at : {X : Type 0} → (List ℕ → X) → ℕ → ℕ → ℕ → List ℕ → Result (List X × List ℕ) ℕ
 list_at of size most end [] = Err (place end [])
 list_at of size most end (count ∷ bytes) =
@@ -122,7 +122,7 @@ reason_at end [] = Err (place end [])
 reason_at end (code ∷ []) = Err (place end (code ∷ []))
 reason_at end (code ∷ label ∷ bytes) = found_at (place end (code ∷ label ∷ bytes)) (reason_of code label) bytes
 
--- ---- entries, behind their kind byte
+-- ---- entries, after their kind byte
 
 unfoldable pub settings_entry_at : ℕ → List ℕ → Result (Entry × List ℕ) ℕ
 settings_entry_at end bytes = do
@@ -194,7 +194,7 @@ release_at end bytes = do
   id ← bytes_at 8 end time.1
   Ok (Release time.0 (id_of id.0), id.1)
 
--- the entry behind this kind byte, which stands at this place
+-- the entry after this kind byte, which is at this place
 unfoldable pub fields_at : ℕ → ℕ → ℕ → List ℕ → Result (Entry × List ℕ) ℕ
 fields_at kind at end bytes =
     if kind == 1 then settings_entry_at end bytes
@@ -209,7 +209,7 @@ fields_at kind at end bytes =
     else (if kind == 10 then release_at end bytes
     else Err at)))))))))
 
--- the entry at the front of the last bytes of an input of `end` bytes, and the bytes behind it
+-- the entry at the start of the last bytes of an input of `end` bytes, and the bytes after it
 unfoldable pub entry_at : ℕ → List ℕ → Result (Entry × List ℕ) ℕ
 entry_at end [] = Err (place end [])
 entry_at end (kind ∷ bytes) = fields_at kind (place end (kind ∷ bytes)) end bytes

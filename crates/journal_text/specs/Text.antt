@@ -34,7 +34,7 @@ settings_text s =
     number_text 2 s.first ++ (number_text 2 s.count ++ (number_text 2 s.hours
     ++ (options_text s.rate s.jrc ++ list_text id_text s.refused.items)))
 
--- what tells reasons of one code apart: a label, 64 above a label, or a rule
+-- what distinguishes reasons of one code: a label, 64 above a label, or a rule
 abbrev pub label_of : Refusal → ℕ
 label_of (Malformed label) = label
 label_of (Unsupported label) = 64 + label
@@ -61,13 +61,13 @@ entry_text (Stale time id epoch) = 8 ∷ (number_text 8 time ++ (id.0 ++ number_
 entry_text (Switch time epoch) = 9 ∷ (number_text 8 time ++ number_text 4 epoch)
 entry_text (Release time id) = 10 ∷ (number_text 8 time ++ id.0)
 
--- the entries, one behind another
+-- the entries, one after another
 abbrev pub entries_text : List Entry → List ℕ
 entries_text entries = flat_map entry_text entries
 
 -- ---- what has a spelling
 
--- at most so many items of so many bytes
+-- at most `most` items of `size` bytes each
 pub record AreItems {X : Type 0} (text : X → List ℕ) (size most : ℕ) (items : List X) : Type 0 where
   pub few : length items ≤ most
   pub each : AllByRecursion (λ item. length (text item) ≡ size) items

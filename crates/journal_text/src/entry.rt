@@ -14,7 +14,7 @@ pub enum Entry {
         time: u64,
         settings: Settings,
     },
-    /// The next context: a pledge under one pre-shared key. `check` is what tells the key apart.
+    /// The next context: a pledge under one pre-shared key. `check` is the fingerprint of the key.
     Enroll {
         context: u32,
         id: PledgeId,

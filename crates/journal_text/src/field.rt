@@ -1,4 +1,4 @@
-//! The fields of entries, each read from the front of the last bytes of an input of `end` bytes.
+//! The fields of entries, each read from the start of the last bytes of an input of `end` bytes.
 ghost use Rattle.std.specs.Prelude.{◌≡◌, ◌<◌, ◌≤◌, ◌^◌, ℕ, length, IfOk};
 ghost use Rattle.journal_text.specs.Numbers.{number_of};
 ghost use Rattle.journal_text.specs.Reading.{Gives, number_at, bytes_at, place};
@@ -6,14 +6,14 @@ ghost use Rattle.journal_text.specs.Reading.{Gives, number_at, bytes_at, place};
 use crate::Bad;
 use byteorder::{BigEndian, ByteOrder};
 
-/// The fault at the front of these bytes.
+/// The fault at the start of these bytes.
 pub fn bad(end: usize, bytes: &[u8]) -> Bad
     ensures { result.0 ≡ place end bytes.now }
 {
     Bad(end.saturating_sub(bytes.len()))
 }
 
-fn front_number(size: usize, bytes: &[u8]) -> u64
+fn prefix_number(size: usize, bytes: &[u8]) -> u64
     requires some { 1 ≤ size }
     requires most { size ≤ 8 }
     requires whole { size ≤ length bytes.now }
@@ -23,7 +23,7 @@ fn front_number(size: usize, bytes: &[u8]) -> u64
     BigEndian::read_uint(bytes, size)
 }
 
-/// A number of so many bytes.
+/// A number of this many bytes.
 fn read_number(size: usize, end: usize, bytes: &[u8]) -> Result<(u64, &[u8]), Bad>
     requires some { 1 ≤ size }
     requires most { size ≤ 8 }
@@ -33,7 +33,7 @@ fn read_number(size: usize, end: usize, bytes: &[u8]) -> Result<(u64, &[u8]), Ba
     if bytes.len() < size {
         return Err(bad(end, bytes));
     }
-    Ok((front_number(size, bytes), &bytes[size..]))
+    Ok((prefix_number(size, bytes), &bytes[size..]))
 }
 
 pub fn read_u64(end: usize, bytes: &[u8]) -> Result<(u64, &[u8]), Bad>
@@ -63,15 +63,15 @@ pub fn read_u16(end: usize, bytes: &[u8]) -> Result<(u16, &[u8]), Bad>
     Ok((number as u16, rest))
 }
 
-/// So many bytes as they stand.
+/// `N` bytes as they are.
 pub fn read_bytes<const N: usize>(end: usize, bytes: &[u8]) -> Result<([u8; N], &[u8]), Bad>
     ensures { Gives (λ x. (x.0, x.1.now)) result (bytes_at N end bytes.now) }
 {
     if bytes.len() < N {
         return Err(bad(end, bytes));
     }
-    let (front, rest) = bytes.split_at(N);
+    let (prefix, rest) = bytes.split_at(N);
     let mut copy = [0; N];
-    copy.copy_from_slice(front);
+    copy.copy_from_slice(prefix);
     Ok((copy, rest))
 }

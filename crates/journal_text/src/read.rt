@@ -1,4 +1,4 @@
-//! Reading an entry from the front of bytes.
+//! Reading an entry from the start of bytes.
 ghost use Rattle.std.specs.Prelude.{◌≡◌, ◌++◌, ℕ, List, Ok, IfOk, IsErr, length, drop};
 ghost use Rattle.journal_text.specs.declared.entry.Entry.{Entry};
 ghost use Rattle.journal_text.specs.Text.{Fits, entry_text};
@@ -10,7 +10,7 @@ use crate::{Bad, Entry};
 use edge_traits::PledgeId;
 use key_sets::KeySet;
 
-/// An entry, and the bytes behind it.
+/// An entry, and the bytes after it.
 type Read<'a> = Result<(Entry, &'a [u8]), Bad>;
 
 #[tactic(auto, unfolding(crate::specs::Reading::settings_entry_at))]
@@ -136,7 +136,7 @@ fn read_release(end: usize, bytes: &[u8]) -> Read<'_>
     Ok((Entry::Release { time, id }, rest))
 }
 
-/// The fields behind a kind byte.
+/// The fields after a kind byte.
 #[tactic(auto, unfolding(crate::specs::Reading::fields_at))]
 fn read_fields(kind: u8, bad: Bad, end: usize, bytes: &[u8]) -> Read<'_>
     ensures { Gives (λ x. (x.0, x.1.now)) result (fields_at kind bad.0 end bytes.now) }
@@ -157,7 +157,7 @@ fn read_fields(kind: u8, bad: Bad, end: usize, bytes: &[u8]) -> Read<'_>
 }
 
 #[tactic(auto, unfolding(crate::specs::Reading::entry_at))]
-fn read_front(end: usize, bytes: &[u8]) -> Read<'_>
+fn read_prefix(end: usize, bytes: &[u8]) -> Read<'_>
     ensures { Gives (λ x. (x.0, x.1.now)) result (entry_at end bytes.now) }
 {
     match bytes {
@@ -166,7 +166,7 @@ fn read_front(end: usize, bytes: &[u8]) -> Read<'_>
     }
 }
 
-/// Reads the entry at the front of the bytes, and tells how many bytes it takes. `Bad` comes exactly where no front of
+/// Reads the entry at the start of the bytes, and returns how many bytes it takes. `Bad` comes exactly where no prefix of
 /// the bytes is an entry.
 pub fn read_entry(bytes: &[u8]) -> Result<(Entry, usize), Bad>
     // What is read is spelled so, and fits its fields.
@@ -178,7 +178,7 @@ pub fn read_entry(bytes: &[u8]) -> Result<(Entry, usize), Bad>
     // Which fault it is.
     ensures exact { IsEntryRead bytes.now result }
 {
-    match read_front(bytes.len(), bytes) {
+    match read_prefix(bytes.len(), bytes) {
         Ok((entry, rest)) => {
             let size = bytes.len() - rest.len();
             Ok((entry, size))

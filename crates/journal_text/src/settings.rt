@@ -5,7 +5,7 @@ use arrayvec::ArrayVec;
 use edge_traits::PledgeId;
 use std::alloc::AllocError;
 
-/// The pool of short addresses, the lease time, and what a Configuration tells beside keys and address.
+/// The pool of short addresses, the lease time, and what a Configuration has beside keys and address.
 #[derive(Debug, PartialEq, Eq, Drop)]
 pub struct Settings {
     /// The first short address of the pool.
@@ -14,11 +14,11 @@ pub struct Settings {
     pub count: u16,
     /// The lease time in hours.
     pub hours: u16,
-    /// The join rate that pledges are told, in bytes a second (RFC 9031, 8.4.2).
+    /// The join rate that pledges get, in bytes a second (RFC 9031, 8.4.2).
     pub rate: Option<u32>,
-    /// The IPv6 address of the registrar, where pledges are told one.
+    /// The IPv6 address of the registrar, where pledges get one.
     pub jrc: Option<[u8; 16]>,
-    /// The pledges that joined nodes are told to refuse.
+    /// The pledges that joined nodes have to refuse.
     pub refused: ArrayVec<PledgeId, 16>,
 }
 

@@ -10,7 +10,7 @@ use std::test::Fail;
 
 const A1: PledgeId = PledgeId([0, 0, 0, 0, 0, 0, 0, 0xa1]);
 
-/// The entry is spelled so, and read again with a byte behind it; no front of its spelling is an entry.
+/// The entry is spelled so, and read again with a byte after it; no prefix of its spelling is an entry.
 fn spelled(rt: &impl Abort, entry: &Entry, bytes: &[u8])
     requires { IsSpellable entry.now }
 {
@@ -33,7 +33,7 @@ fn spelled(rt: &impl Abort, entry: &Entry, bytes: &[u8])
         Err(_) => assert!(rt; false, "no entry"),
     }
     for end in 0..bytes.len() {
-        assert!(rt; read_entry(&bytes[..end]).is_err(), "a front");
+        assert!(rt; read_entry(&bytes[..end]).is_err(), "a prefix");
     }
 }
 

@@ -1,4 +1,4 @@
-//! Writing an entry behind what a buffer holds.
+//! Writing an entry after what a buffer holds.
 ghost use Rattle.std.specs.Prelude.{◌≡◌, ◌<◌, ◌≤◌, ◌+◌, ◌*◌, ◌^◌, ◌∷◌, ◌++◌, [], IfErr, IfSome, OnOk, OnErr, length};
 ghost use Rattle.std.specs.List.{flat_map, AllByRecursion};
 ghost use Rattle.arrayvec.specs.ArrayVec.{array_vec_len};
@@ -158,7 +158,7 @@ fn put_settings(text: &mut Text, settings: &Settings)
     put_ids(text, settings.refused.as_slice());
 }
 
-/// What tells reasons of one code apart.
+/// What distinguishes reasons of one code.
 fn label(why: Refusal) -> u8
     requires { IsReason why }
     ensures { result ≡ label_of why }

@@ -1,5 +1,5 @@
 -- Key ids and the keys in force (RFC 9031, 8.4.3).
-use Rattle.std.specs.Prelude.{ℕ, ◌+◌, ◌*◌, ◌%◌, List, [], ◌∷◌, ◌++◌}
+use Rattle.std.specs.Prelude.{ℕ, ◌+◌, ◌*◌, ◌%◌, List, [], ◌∷◌, ◌++◌, codes, decimal}
 use Rattle.key_sets.specs.declared.set.KeySet.{KeySet}
 use Rattle.key_sets.specs.declared.phase.Phase.{Phase}
 use Rattle.key_sets.specs.declared.phase.Phase.TheVariants.{None, Steady, Spreading}
@@ -28,3 +28,7 @@ abbrev pub epoch_of : Phase → ℕ
 epoch_of None = 0
 epoch_of (Steady set) = set.epoch
 epoch_of (Spreading old new) = new.epoch
+
+-- a set as it is shown: its epoch, and no key
+abbrev pub shown_set : ℕ → List ℕ
+shown_set epoch = codes "KeySet { epoch: " ++ decimal epoch ++ codes ", .. }"

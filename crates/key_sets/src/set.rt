@@ -1,18 +1,29 @@
 //! The link-layer keys of one epoch.
-ghost use Rattle.std.specs.Prelude.{◌≡◌, ⊤};
+ghost use Rattle.std.specs.Prelude.{◌≡◌, ⊤, Some};
 ghost use Rattle.key_sets.specs.Keys as spec;
 
 use arrayvec::ArrayVec;
 use std::alloc::AllocError;
+use std::fmt;
 
 /// How many key ids there are.
 const KEY_IDS: u64 = 252;
 
 /// The keys that came into force together, 1 to 4 of 16 bytes, and their epoch, from 1 (RFC 9031, 8.4.3).
-#[derive(Debug, PartialEq, Eq, Drop)]
+#[derive(PartialEq, Eq, Drop)]
 pub struct KeySet {
     pub epoch: u32,
     pub keys: ArrayVec<[u8; 16], 4>,
+}
+
+/// Shows no key.
+impl fmt::Debug for KeySet {
+    ghost debug_output = { λ set. Some (spec.shown_set set.epoch) };
+
+    fn fmt<W: fmt::Write>(&self, f: &mut fmt::Formatter<W>) -> fmt::Result {
+        let epoch = self.epoch;
+        write!(f, "KeySet {{ epoch: {epoch}, .. }}")
+    }
 }
 
 impl Clone for KeySet {

@@ -2,6 +2,7 @@
 use crate::{KeySet, Phase, key_id};
 use arrayvec::ArrayVec;
 use std::process::Abort;
+use std::test::Fail;
 
 const FIRST: [u8; 16] = *b"\xe6\xbf\x42\x87\xc2\xd7\x61\x8d\x6a\x96\x87\x44\x5f\xfd\x33\xe6";
 
@@ -40,4 +41,14 @@ fn old_keys_come_before_new_ones(rt: HostRuntime) {
         2,
         &[(5, FIRST), (9, SECOND)],
     );
+}
+
+#[test]
+fn a_set_shows_its_epoch_and_no_key(rt: HostRuntime) -> Result<(), Fail> {
+    let set = set_of(7, FIRST);
+    let text = format!(in rt.alloc(); "{set:?}")?;
+    assert_eq!(rt; text.as_str(), "KeySet { epoch: 7, .. }");
+    let text = format!(in rt.alloc(); "{:?}", Phase::Steady(set))?;
+    assert_eq!(rt; text.as_str(), "Steady(KeySet { epoch: 7, .. })");
+    Ok(())
 }

@@ -73,7 +73,7 @@ has_room room (Stale time id epoch) h may contexts entries = entries
 has_room room (Switch time epoch) h may contexts entries = entries
 has_room room (Release time id) h may contexts entries = entries
 
--- what opening adds behind one history of a state may follow each
+-- what opening adds after one history of a state may follow each
 pub opening_follows : (state : RegState) (h : List Entry) (e : Entry) → IsOpening e → StandsFor state h → MayFollow h e → CanFollow state e
 opening_follows state h (Settings time settings) kind stands may =
     record { history = h; stands = stands; each = λ g stands'. settings_there state h g time settings stands stands' may }

@@ -1,6 +1,6 @@
 pub mod Contexts
 pub mod Decisions
-pub mod Fronts
+pub mod Prefixes
 pub mod Placing
 pub mod Enrolling
 pub mod Planning

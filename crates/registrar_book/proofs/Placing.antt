@@ -24,7 +24,7 @@ pub PlacesRows-push : (known rows between new : List Row) (row : Row) → Places
 PlacesRows-push known [] between new row is one = (new, subst (λ (k : List Row). PlacesRow k row new) is one, refl)
 PlacesRows-push known (r ∷ rows) between new row is one = (is.0, is.1, PlacesRows-push is.0 rows between new row is.2 one)
 
--- what stood at a place stands there still
+-- what stood at a place is there still
 still_at : (old : List Row) (row : Row) (new : List Row) → PlacesRow old row new → (other : Row) (place : ℕ) → IsRowAt old other place → IsRowAt new other place
 still_at old row new (inl is) other place at = subst (λ (k : List Row). IsRowAt k other place) (sym is.1) at
 still_at old row new (inr is) other place at =

@@ -1,4 +1,4 @@
--- What opening adds behind a log.
+-- What opening adds after a log.
 use Rattle.std.proofs.Common.{◌≡◌, ◌⊎◌, ℕ, ◌+◌, ◌*◌, ◌≤◌, ◌<◌, List, [], ◌∷◌, ◌++◌, length, get_or, drop, Option, None, Some, unwrap_or, refl, sym, ap, subst, ◌∙◌, append_assoc, append-nil, arith, inl, inr, length-append}
 use Rattle.std.proofs.lemmas.List.{get_or_append_left, length-drop}
 use Rattle.std.proofs.Math.Seq.{drop-append_seam, get_or-append_seam}
@@ -34,13 +34,13 @@ unfolding has_size
 enrolls_sized context [] = tt
 enrolls_sized context (row ∷ rows) = (refl, enrolls_sized (context + 1) rows)
 
-front_of : (P : Entry → Type 0) (batch back : List Entry) → AllByRecursion P (batch ++ back) → AllByRecursion P batch
-front_of P [] back all = tt
-front_of P (e ∷ batch) back all = (all.0, front_of P batch back all.1)
+prefix_of : (P : Entry → Type 0) (batch back : List Entry) → AllByRecursion P (batch ++ back) → AllByRecursion P batch
+prefix_of P [] back all = tt
+prefix_of P (e ∷ batch) back all = (all.0, prefix_of P batch back all.1)
 
-part_of : (P : Entry → Type 0) (front batch back : List Entry) → AllByRecursion P (front ++ (batch ++ back)) → AllByRecursion P batch
-part_of P [] batch back all = front_of P batch back all
-part_of P (e ∷ front) batch back all = part_of P front batch back all.1
+part_of : (P : Entry → Type 0) (prefix batch back : List Entry) → AllByRecursion P (prefix ++ (batch ++ back)) → AllByRecursion P batch
+part_of P [] batch back all = prefix_of P batch back all
+part_of P (e ∷ prefix) batch back all = part_of P prefix batch back all.1
 
 sized_sum : (entries : List Entry) → AllByRecursion has_size entries → sizes_of entries ≤ 45 * length entries
 unfolding has_size
@@ -51,20 +51,20 @@ most_size : (e : Entry) → size_limit e ≤ 165
 most_size (Enroll context id check) = omega arith
 most_size _ = omega arith
 
--- an entry and contexts behind it
-sized_tail : (e : Entry) (rest front batch back : List Entry) → AllByRecursion has_size rest → e ∷ rest ≡ front ++ (batch ++ back) → sizes_of batch ≤ 120 + 45 * length batch
+-- an entry and contexts after it
+sized_tail : (e : Entry) (rest prefix batch back : List Entry) → AllByRecursion has_size rest → e ∷ rest ≡ prefix ++ (batch ++ back) → sizes_of batch ≤ 120 + 45 * length batch
 sized_tail e rest [] [] back all is = omega arith
 sized_tail e rest [] (x ∷ batch) back all is =
     let tail : rest ≡ batch ++ back = cc in
-    omega (arith, most_size x, sized_sum batch (front_of has_size batch back (subst (AllByRecursion has_size) tail all)))
-sized_tail e rest (x ∷ front) batch back all is =
-    let tail : rest ≡ front ++ (batch ++ back) = cc in
-    omega (arith, sized_sum batch (part_of has_size front batch back (subst (AllByRecursion has_size) tail all)))
+    omega (arith, most_size x, sized_sum batch (prefix_of has_size batch back (subst (AllByRecursion has_size) tail all)))
+sized_tail e rest (x ∷ prefix) batch back all is =
+    let tail : rest ≡ prefix ++ (batch ++ back) = cc in
+    omega (arith, sized_sum batch (part_of has_size prefix batch back (subst (AllByRecursion has_size) tail all)))
 
 pub small : (first : Option Entry) (context : ℕ) (rows : List Row) → AreSmall (first_entries first ++ enrolls context rows)
-small None context rows front batch back is =
-    omega (arith, sized_sum batch (part_of has_size front batch back (subst (AllByRecursion has_size) is (enrolls_sized context rows))))
-small (Some e) context rows front batch back is = sized_tail e (enrolls context rows) front batch back (enrolls_sized context rows) is
+small None context rows prefix batch back is =
+    omega (arith, sized_sum batch (part_of has_size prefix batch back (subst (AllByRecursion has_size) is (enrolls_sized context rows))))
+small (Some e) context rows prefix batch back is = sized_tail e (enrolls context rows) prefix batch back (enrolls_sized context rows) is
 
 -- ---- contexts of rows
 

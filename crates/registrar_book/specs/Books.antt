@@ -14,14 +14,13 @@ use Rattle.join_history.specs.Legal.{IsLegal}
 use Rattle.join_history.specs.Opening.{IsOpened}
 use Rattle.registrar_state.specs.declared.state.RegState.{RegState}
 use Rattle.registrar_state.specs.State.{StandsFor}
-use Rattle.journal_store.specs.Area.{IsLog}
-use Rattle.journal_store.specs.Store.{disk_of}
+use Rattle.journal_store.specs.Store.{disk_of, ImageHas}
 use Rattle.registrar_book.specs.declared.answers.OpenFault.{OpenFault}
 use Rattle.registrar_book.specs.declared.answers.OpenFault.TheVariants.{Disk}
 use Rattle.registrar_book.specs.declared.answers.Decided.{Decided}
 use Rattle.registrar_book.specs.declared.answers.Decided.TheVariants.{Made, Again, Quiet, Unsure, Full}
 use Rattle.registrar_book.specs.declared.book.Book.{Book}
-use Rattle.registrar_book.specs.Journals.{IsHeld, HasFront}
+use Rattle.registrar_book.specs.Journals.{IsHeld, HasPrefix}
 use Rattle.registrar_book.specs.Opening.{Row, HasContext, IsLogOf, opening_time}
 
 -- how many entries a log may have
@@ -47,7 +46,7 @@ IsKept may_leave book = IsHeld may_leave book.press.journal (log_of book) (durab
 
 -- ---- opening
 
--- a book that was opened behind this log, and the context of each row
+-- a book that was opened after this log, and the context of each row
 pub record IsOpenBook {D : Type 0} {ghosts : Ghosts D} (log : List Entry) (settings : Settings) (rows : List Row) (now : Option ℕ) (book : Book D ghosts) (contexts : List ℕ) : Type 0 where
   pub opened : IsOpened log (opening_time log now) settings rows (log_of book)
   pub stands : StandsFor (state_of book) (log_of book)
@@ -55,29 +54,28 @@ pub record IsOpenBook {D : Type 0} {ghosts : Ghosts D} (log : List Entry) (setti
   pub most : length (log_of book) ≤ entry_limit
   pub durable : durable_of book ≡ length (log_of book)
 
--- A book that was opened on this disk. Beside what was left before, a crash at any moment of it leaves a front of the book's log,
+-- A book that was opened on this disk. Beside what was left before, a crash at any moment of it leaves a prefix of the book's log,
 -- with what the disk had at least.
 pub record IsOpenOn {D : Type 0} {ghosts : Ghosts D} (disk : D) (settings : Settings) (rows : List Row) (now : Option ℕ) (book : Book D ghosts) (contexts : List ℕ) : Type 0 where
   pub log : List Entry
   pub log_is : IsLogOf (ghosts.tells disk) (ghosts.seen disk) log
   pub is_open : IsOpenBook log settings rows now book contexts
   pub any_moment : IsTrue (ghosts.tells disk) → LeavesOnly ghosts.moment ghosts.left_since disk (book_disk book)
-      (λ image. ghosts.may_leave disk image ⊎ HasFront (ghosts.may_leave disk) (length log) (log_of book) image)
+      (λ image. ghosts.may_leave disk image ⊎ HasPrefix (length log) (log_of book) image)
 
--- The image has the log that these areas have, and a front of what opening adds to it.
-pub record HasOpening (old : Areas → Type 0) (areas : Areas) (settings : Settings) (rows : List Row) (now : Option ℕ) (image : Areas) : Type 0 where
+-- The image has the log that these areas have, and a prefix of what opening adds to it.
+pub record HasOpening (areas : Areas) (settings : Settings) (rows : List Row) (now : Option ℕ) (image : Areas) : Type 0 where
   pub log : List Entry
-  pub end : ℕ
-  pub is_log : IsLog end log areas.left
+  pub has : ImageHas log areas
   pub history : List Entry
   pub opened : IsOpened log (opening_time log now) settings rows history
   pub legal : IsLegal history
-  pub front : HasFront old (length log) history image
+  pub prefix : HasPrefix (length log) history image
 
 -- the disk, in the book or handed back
-abbrev pub disk_after : {D : Type 0} {ghosts : Ghosts D} → Result (Book D ghosts × Vec ℕ Global) (D × OpenFault) → D
-disk_after (Ok opened) = book_disk opened.0
-disk_after (Err refused) = refused.0
+abbrev pub book_disk_after : {D : Type 0} {ghosts : Ghosts D} → Result (Book D ghosts × Vec ℕ Global) (D × OpenFault) → D
+book_disk_after (Ok opened) = book_disk opened.0
+book_disk_after (Err refused) = refused.0
 
 -- the answers after which the disk is as it was
 abbrev pub WroteNothing : OpenFault → Type 0
@@ -86,7 +84,7 @@ WroteNothing _ = ⊤
 
 -- ---- decisions
 
--- What a decision answers behind the history g, the entries that it adds, and the length of the log then. Where it is
+-- What a decision answers after the history g, the entries that it adds, and the length of the log then. Where it is
 -- unsure, the entry that is due was added, or the batch before it isn't settled and nothing was decided.
 abbrev pub IsDecided : List Entry → ℕ → ℕ → ℕ → Want → Decided → List Entry → ℕ → Type 0
 IsDecided g now c n want (Made at) added length = (e : Entry) × IsDue g now c n want (due.Add e) × (added ≡ e ∷ []) × (at ≡ length) × (length ≤ entry_limit)
@@ -96,9 +94,9 @@ IsDecided g now c n want (Full at) added length = (e : Entry) × IsDue g now c n
 IsDecided g now c n want (Unsure at faults) added length = ((added ≡ []) ⊎ ((e : Entry) × IsDue g now c n want (due.Add e) × (added ≡ e ∷ []) × (length ≤ entry_limit))) × (at ≡ length)
 
 -- all but Unsure are answered only once the whole log is durable
-abbrev pub IsSure : Decided → ℕ → ℕ → Type 0
-IsSure (Unsure at faults) durable length = ⊤
-IsSure _ durable length = durable ≡ length
+abbrev pub IsDurableUnlessUnsure : Decided → ℕ → ℕ → Type 0
+IsDurableUnlessUnsure (Unsure at faults) durable length = ⊤
+IsDurableUnlessUnsure _ durable length = durable ≡ length
 
 -- a decision is unsure only where the disk's count of faults rose, to this
 abbrev pub HasDecidedCause : ℕ → ℕ → Decided → Type 0
@@ -106,7 +104,7 @@ HasDecidedCause before now (Unsure at faults) = Rose before now × (faults ≡ n
 HasDecidedCause before now _ = ⊤
 
 -- Where an answer is unsure nothing more became durable: nothing was decided, since the batch before it isn't settled, or the
--- entry is pending behind all that was there.
+-- entry is pending after all that was there.
 abbrev pub LeavesDurable : Decided → List Entry → ℕ → ℕ → ℕ → Type 0
 LeavesDurable (Unsure at faults) [] durable length now = (durable < length) × (now ≡ durable)
 LeavesDurable (Unsure at faults) (e ∷ added) durable length now = now ≡ length

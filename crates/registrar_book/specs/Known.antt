@@ -34,7 +34,7 @@ abbrev pub PlacesRows : List Row → List Row → List Row → Type 0
 PlacesRows old [] new = new ≡ old
 PlacesRows old (row ∷ rows) new = (between : List Row) × PlacesRow old row between × PlacesRows between rows new
 
--- the row stands at this place
+-- the row is at this place
 abbrev pub IsRowAt : List Row → Row → ℕ → Type 0
 IsRowAt known row place = (place < length known) × (get_or known place row ≡ row)
 
@@ -81,7 +81,7 @@ IsOpening (SettingsEntry time settings) = ⊤
 IsOpening (Enroll context id check) = ⊤
 IsOpening _ = ⊥
 
--- what opening adds behind a log, and the context of each row
+-- what opening adds after a log, and the context of each row
 pub record IsPlan (log : List Entry) (settings : Settings) (rows : List Row) (now : Option ℕ) (entries : List Entry) (contexts : List ℕ) : Type 0 where
   pub opened : IsOpened log (opening_time log now) settings rows (log ++ entries)
   pub legal : IsLegal (log ++ entries)

@@ -13,7 +13,7 @@ use Rattle.join_history.specs.Opening.{EnrollsRows, IsOpened}
 use Rattle.journal_store.specs.declared.fault.Spot.TheVariants.{Entry as EntrySpot}
 use Rattle.journal_store.specs.declared.fault.StoreFault.{StoreFault}
 use Rattle.journal_store.specs.declared.fault.StoreFault.TheVariants as store
-use Rattle.journal_store.specs.Area.{IsLog}
+use Rattle.journal_store.specs.Store.{ImageHas}
 use Rattle.journal_store.specs.Fault.{HasFault}
 use Rattle.registrar_book.specs.declared.answers.OpenFault.{OpenFault}
 use Rattle.registrar_book.specs.declared.answers.OpenFault.TheVariants.{Disk, NotAJournal, SameKey, ContextsFull, JournalFull, NoMemory}
@@ -55,14 +55,14 @@ pub record HaveSameKey (log : List Entry) (rows : List Row) (p q : PledgeId) : T
   pub found : Contains between (Enroll context p check)
   pub other : p ≢ q
 
--- with the contexts of these rows there are so many, which are too many
+-- with the contexts of these rows there are `count` contexts, which are too many
 pub record HasTooManyContexts (log : List Entry) (rows : List Row) (count : ℕ) : Type 0 where
   pub history : List Entry
   pub enrolled : EnrollsRows log rows history
   pub is : count ≡ context_count history
   pub many : 32768 < count
 
--- with the entries of opening there are so many, which are too many
+-- with the entries of opening there are `count` entries, which are too many
 pub record HasTooManyEntries (log : List Entry) (settings : Settings) (rows : List Row) (now : Option ℕ) (count : ℕ) : Type 0 where
   pub history : List Entry
   pub opened : IsOpened log (opening_time log now) settings rows history
@@ -70,7 +70,7 @@ pub record HasTooManyEntries (log : List Entry) (settings : Settings) (rows : Li
   pub is : count ≡ length history
   pub many : 262144 < count
 
--- why nothing can be opened behind this log: it isn't legal, or by the rows and settings, or memory was short
+-- why nothing can be opened after this log: it isn't legal, or by the rows and settings, or memory was short
 abbrev pub OpenCause : List Entry → Settings → List Row → Option ℕ → OpenFault → Type 0
 OpenCause log settings rows now (NotAJournal (EntrySpot index)) = StopsAt log index
 OpenCause log settings rows now (SameKey p q) = IsLegal log × HaveSameKey log rows p q
@@ -91,16 +91,16 @@ IsStoreFault (store.NotAJournal spot) fault = fault ≡ NotAJournal spot
 IsStoreFault store.NoMemory fault = fault ≡ NoMemory
 IsStoreFault (store.AlreadyThere n) fault = ⊥
 
--- a disk that tells has this log
+-- a disk that reports its content has this log
 abbrev pub IsLogOf : Bool → Areas → List Entry → Type 0
-IsLogOf tells areas log = IsTrue tells → (end : ℕ) × IsLog end log areas.left
+IsLogOf tells areas log = IsTrue tells → ImageHas log areas
 
 -- Why a disk wasn't opened: its count of faults rose to this, or its left area has no reading, or nothing can be opened
--- behind its log.
-abbrev pub StartCause : Bool → Areas → ℕ → ℕ → Settings → List Row → Option ℕ → OpenFault → Type 0
-StartCause tells areas before after settings rows now (Disk count) = Rose before after × (count ≡ after)
-StartCause tells areas before after settings rows now (NotAJournal spot) =
+-- after its log.
+abbrev pub BookCause : Bool → Areas → ℕ → ℕ → Settings → List Row → Option ℕ → OpenFault → Type 0
+BookCause tells areas before after settings rows now (Disk count) = Rose before after × (count ≡ after)
+BookCause tells areas before after settings rows now (NotAJournal spot) =
     (IsTrue tells → HasFault areas.left spot)
     ⊎ ((log : List Entry) × IsLogOf tells areas log × OpenCause log settings rows now (NotAJournal spot))
-StartCause tells areas before after settings rows now NoMemory = ⊤
-StartCause tells areas before after settings rows now fault = (log : List Entry) × IsLogOf tells areas log × OpenCause log settings rows now fault
+BookCause tells areas before after settings rows now NoMemory = ⊤
+BookCause tells areas before after settings rows now fault = (log : List Entry) × IsLogOf tells areas log × OpenCause log settings rows now fault

@@ -18,7 +18,7 @@ pub enum Decided {
     Again(u32),
     /// It gets no answer.
     Quiet(Quiet, u32),
-    /// The disk failed, whose count of faults is this now. The decision stands, and is pending; or nothing was decided, since the
+    /// The disk failed, whose count of faults is this now. The decision was made, and is pending; or nothing was decided, since the
     /// one before it is still pending.
     Unsure(u32, u64),
     /// An entry is due, and the log has no room.

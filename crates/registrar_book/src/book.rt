@@ -15,7 +15,7 @@ use registrar_state::{Due, Opening, RegState, Want};
 use std::alloc::Global;
 use std::slice;
 
-/// A state and the journal that it stands on. What is decided stays decided: where the disk fails its entry is pending, and the
+/// A state and its journal. A decision is never lost: where the disk fails its entry is pending, and the
 /// next call settles it first.
 #[derive(Drop)]
 pub struct Book<D: Disk> {
@@ -39,21 +39,22 @@ fn open_fault(fault: StoreFault) -> OpenFault
 
 impl<D: Disk> Book<D> {
     ghost use Rattle.std.specs.Prelude.{◌≡◌, ◌≤◌, ◌<◌, ◌⊎◌, ◌^◌, ◌+◌, ◌∷◌, ◌++◌, [], ℕ, Option, List, length, IfOk, IfErr, OnOk, OnErr, IsTrue};
-    ghost use Rattle.edge_traits.specs.Disk.{LeavesNoMore, LeavesOnly};
+    ghost use Rattle.edge_traits.specs.Disk.{LeavesOnly};
+    ghost use Rattle.edge_traits.specs.Runs.{IsSameDisk, IsUntouched};
     ghost use Rattle.journal_text.specs.declared.settings.Settings.{Settings};
     ghost use Rattle.join_history.specs.Legal.{IsInRange};
     ghost use Rattle.journal_text.specs.declared.entry.Entry.{Entry};
     ghost use Rattle.join_history.specs.Due.{IsWish};
     ghost use Rattle.journal_text.specs.Text.{IsSpellable};
     ghost use Rattle.registrar_state.specs.Room.{HasRoomFor};
-    ghost use Rattle.registrar_state.specs.State.{StandsFor, CanFollow, IsEnrolled, HasSettings, spare};
-    ghost use Rattle.journal_store.specs.Store.{disk_of, pending_of, Stands};
-    ghost use Rattle.registrar_book.specs.Journals.{HasFront};
-    ghost use Rattle.registrar_book.specs.Books.{log_of, state_of, durable_of, book_disk, disk_after, IsKept, IsOpenOn, IsOpenBook, HasOpening, WroteNothing, IsSure, HasDecidedCause, Adds, AddsEntry};
-    ghost use Rattle.registrar_book.specs.Opening.{Row, StartCause, IsDiskFault};
+    ghost use Rattle.registrar_state.specs.State.{StandsFor, CanFollow, IsEnrolled, HasSettings, spare_room};
+    ghost use Rattle.journal_store.specs.Store.{disk_of, pending_of};
+    ghost use Rattle.registrar_book.specs.Journals.{HasLog, HasPrefix};
+    ghost use Rattle.registrar_book.specs.Books.{log_of, state_of, durable_of, book_disk, book_disk_after, IsKept, IsOpenOn, IsOpenBook, HasOpening, WroteNothing, IsDurableUnlessUnsure, HasDecidedCause, Adds, AddsEntry};
+    ghost use Rattle.registrar_book.specs.Opening.{Row, BookCause, IsDiskFault};
     ghost use Rattle.registrar_book.specs.Prepared.{IsPrepared};
 
-    /// Opens the journal of a disk, adds what its log lacks of the settings and of contexts for the rows, and tells the context
+    /// Opens the journal of a disk, adds what its log lacks of the settings and of contexts for the rows, and returns the context
     /// of each row. The entries that it adds have the moment of `now`, or the last time where that is `None`.
     pub fn start(
         alloc: Global,
@@ -66,18 +67,13 @@ impl<D: Disk> Book<D> {
         ensures opened { IfOk result (λ opened.
             IsOpenOn disk opening.now.settings opening.now.rows.items now opened.0 opened.1.items) }
         ensures kept { IsTrue (D.tells disk) → IfOk result (λ opened. IsKept D.may_leave opened.0) }
-        ensures fault { IfErr result (λ refused. StartCause (D.tells disk) (D.seen disk) (D.fault_count disk) (D.fault_count refused.0)
+        ensures fault { IfErr result (λ refused. BookCause (D.tells disk) (D.seen disk) (D.fault_count disk) (D.fault_count refused.0)
             opening.now.settings opening.now.rows.items now refused.1) }
-        ensures seen { IsTrue (D.tells disk) → IfErr result (λ refused. WroteNothing refused.1 → D.seen refused.0 ≡ D.seen disk) }
-        ensures crash { IsTrue (D.tells disk) → IfErr result (λ refused. WroteNothing refused.1
-            → LeavesNoMore (D.may_leave disk) (D.may_leave refused.0)) }
-        ensures still { IsTrue (D.tells disk) → IfErr result (λ refused. WroteNothing refused.1
-            → LeavesOnly D.moment D.left_since disk refused.0 (D.may_leave disk)) }
-        ensures any_moment { IsTrue (D.tells disk) → LeavesOnly D.moment D.left_since disk (disk_after result)
+        ensures untouched { IfErr result (λ refused. WroteNothing refused.1 → IsUntouched D.Disk disk refused.0) }
+        ensures any_moment { IsTrue (D.tells disk) → LeavesOnly D.moment D.left_since disk (book_disk_after result)
             (λ image. D.may_leave disk image
-            ⊎ HasOpening (D.may_leave disk) (D.seen disk) opening.now.settings opening.now.rows.items now image) }
-        ensures tells { D.tells (disk_after result) ≡ D.tells disk }
-        ensures counted { D.fault_count disk ≤ D.fault_count (disk_after result) }
+            ⊎ HasOpening (D.seen disk) opening.now.settings opening.now.rows.items now image) }
+        ensures same { IsSameDisk D.Disk disk (book_disk_after result) }
     {
         let (journal, log) = match Journal::start(alloc, disk) {
             Ok(opened) => opened,
@@ -91,7 +87,7 @@ impl<D: Disk> Book<D> {
 
     // Writes what opening adds.
     fn open(journal: Journal<D>, prepared: Prepared) -> Result<(Book<D>, Vec<u32>), (D, OpenFault)>
-        requires stands { IsTrue (D.tells (disk_of journal)) → Stands D.may_leave journal prepared.desk.log.items }
+        requires stands { IsTrue (D.tells (disk_of journal)) → HasLog D.may_leave journal prepared.desk.log.items }
         requires nothing_pending { pending_of journal ≡ [] }
         requires reach { reach_of journal ≤ end_limit (length prepared.desk.log.items) }
         requires prepared { (log : List Entry) × (settings : Settings) × (rows : List Row) × (now : Option ℕ) × IsPrepared log settings rows now prepared }
@@ -101,10 +97,8 @@ impl<D: Disk> Book<D> {
         ensures kept { IsTrue (D.tells (disk_of journal)) → IfOk result (λ opened. IsKept D.may_leave opened.0) }
         ensures fault { IfErr result (λ refused. IsDiskFault (D.fault_count (disk_of journal)) (D.fault_count refused.0) refused.1) }
         ensures any_moment { IsTrue (D.tells (disk_of journal))
-            → LeavesOnly D.moment D.left_since (disk_of journal) (disk_after result) (HasFront (D.may_leave (disk_of journal))
-            (length prepared.desk.log.items) (prepared.desk.log.items ++ prepared.plan.entries.items)) }
-        ensures tells { D.tells (disk_after result) ≡ D.tells (disk_of journal) }
-        ensures counted { D.fault_count (disk_of journal) ≤ D.fault_count (disk_after result) }
+            → LeavesOnly D.moment D.left_since (disk_of journal) (book_disk_after result) (HasPrefix (length prepared.desk.log.items) (prepared.desk.log.items ++ prepared.plan.entries.items)) }
+        ensures same { IsSameDisk D.Disk (disk_of journal) (book_disk_after result) }
     {
         let Prepared { mut desk, plan } = prepared;
         let mut press = Press::new(journal);
@@ -124,11 +118,11 @@ impl<D: Disk> Book<D> {
         requires number { number < 2 ^ 40 }
         requires want { IsWish want }
         ensures adds { (g : List Entry) → StandsFor (state_of self.old) g → Adds self.old self.new g now context number want result }
-        ensures sure { IsSure result (durable_of self.new) (length (log_of self.new)) }
+        ensures sure { IsDurableUnlessUnsure result (durable_of self.new) (length (log_of self.new)) }
         ensures kept { IsTrue (D.tells (book_disk self.old)) → IsKept D.may_leave self.new }
         ensures any_moment { IsTrue (D.tells (book_disk self.old))
             → LeavesOnly D.moment D.left_since (book_disk self.old) (book_disk self.new)
-            (HasFront (D.may_leave (book_disk self.old)) (durable_of self.old) (log_of self.new)) }
+            (HasPrefix (durable_of self.old) (log_of self.new)) }
         ensures cause { HasDecidedCause (D.fault_count (book_disk self.old)) (D.fault_count (book_disk self.new)) result }
         ensures counted { D.fault_count (book_disk self.old) ≤ D.fault_count (book_disk self.new) }
         ensures tells { D.tells (book_disk self.new) ≡ D.tells (book_disk self.old) }
@@ -144,20 +138,20 @@ impl<D: Disk> Book<D> {
         }
     }
 
-    // Adds an entry that is due, behind a log that is durable.
+    // Adds an entry that is due, after a log that is durable.
     fn add(&mut self, entry: &Entry) -> Decided
-        requires stands { IsTrue (D.tells (book_disk self.old)) → Stands D.may_leave self.old.press.journal (log_of self.old) }
+        requires stands { IsTrue (D.tells (book_disk self.old)) → HasLog D.may_leave self.old.press.journal (log_of self.old) }
         requires nothing_pending { pending_of self.old.press.journal ≡ [] }
         requires durable { durable_of self.old ≡ length (log_of self.old) }
         requires may_follow { CanFollow (state_of self.old) entry.now }
         requires spellable { IsSpellable entry.now }
-        requires room { 0 < (spare (state_of self.old)).entries → HasRoomFor (spare (state_of self.old)) entry.now }
+        requires room { 0 < (spare_room (state_of self.old)).entries → HasRoomFor (spare_room (state_of self.old)) entry.now }
         ensures adds { AddsEntry self.old self.new entry.now result }
-        ensures sure { IsSure result (durable_of self.new) (length (log_of self.new)) }
+        ensures sure { IsDurableUnlessUnsure result (durable_of self.new) (length (log_of self.new)) }
         ensures kept { IsTrue (D.tells (book_disk self.old)) → IsKept D.may_leave self.new }
         ensures any_moment { IsTrue (D.tells (book_disk self.old))
             → LeavesOnly D.moment D.left_since (book_disk self.old) (book_disk self.new)
-            (HasFront (D.may_leave (book_disk self.old)) (length (log_of self.old)) (log_of self.new)) }
+            (HasPrefix (length (log_of self.old)) (log_of self.new)) }
         ensures cause { HasDecidedCause (D.fault_count (book_disk self.old)) (D.fault_count (book_disk self.new)) result }
         ensures counted { D.fault_count (book_disk self.old) ≤ D.fault_count (book_disk self.new) }
         ensures tells { D.tells (book_disk self.new) ≡ D.tells (book_disk self.old) }

@@ -1,6 +1,6 @@
 //! What is decided: the state and its log, and how much of that is durable.
 ghost use Rattle.std.specs.Prelude.{◌≤◌, ◌+◌, vec_len, vec_capacity};
-ghost use Rattle.registrar_state.specs.State.{spare};
+ghost use Rattle.registrar_state.specs.State.{spare_room};
 
 use journal_text::Entry;
 use registrar_state::RegState;
@@ -14,7 +14,7 @@ pub struct Desk {
     pub log: Vec<Entry>,
     /// How many entries of the log are durable.
     pub durable: u32,
-    ghost room: { 262144 ≤ vec_len log + (spare state).entries },
+    ghost room: { 262144 ≤ vec_len log + (spare_room state).entries },
     ghost memory: { 262144 ≤ vec_capacity log },
     ghost most: { vec_len log ≤ 262144 },
 }
@@ -39,12 +39,12 @@ impl Desk {
     /// Adds an entry to the state and to the log.
     pub fn add(&mut self, entry: &Entry)
         requires may_follow { CanFollow self.old.state entry.now }
-        requires room { HasRoomFor (spare self.old.state) entry.now }
+        requires room { HasRoomFor (spare_room self.old.state) entry.now }
         requires space { length self.old.log.items < 262144 }
         ensures stands { (h : List Entry) → StandsFor self.old.state h → StandsFor self.new.state (h ++ entry.now ∷ []) }
         ensures log { self.new.log.items ≡ self.old.log.items ++ entry.now ∷ [] }
         ensures durable { self.new.durable ≡ self.old.durable }
-        ensures room { TakesRoom (spare self.old.state) (spare self.new.state) entry.now }
+        ensures room { TakesRoom (spare_room self.old.state) (spare_room self.new.state) entry.now }
     {
         self.state.apply(entry);
         self.log.push_reserved(entry.clone().unwrap());
@@ -54,7 +54,7 @@ impl Desk {
     pub fn add_all(&mut self, entries: &[Entry])
         requires may_follow { (h : List Entry) × StandsFor self.old.state h × IsLegal (h ++ entries.now) }
         requires kinds { AllByRecursion IsOpening entries.now }
-        requires contexts { context_count entries.now ≤ (spare self.old.state).contexts }
+        requires contexts { context_count entries.now ≤ (spare_room self.old.state).contexts }
         requires space { length self.old.log.items + length entries.now ≤ 262144 }
         ensures stands { (h : List Entry) → StandsFor self.old.state h → StandsFor self.new.state (h ++ entries.now) }
         ensures log { self.new.log.items ≡ self.old.log.items ++ entries.now }

@@ -73,7 +73,7 @@ fn opening_entries(
     Ok(entries)
 }
 
-/// What opening adds behind this log.
+/// What opening adds after this log.
 pub fn make_plan(
     alloc: Global,
     log: &[Entry],

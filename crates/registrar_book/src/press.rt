@@ -24,9 +24,9 @@ impl<D: Disk> Press<D> {
     ghost use Rattle.edge_traits.specs.Faults.{HasCause};
     ghost use Rattle.journal_text.specs.declared.entry.Entry.{Entry};
     ghost use Rattle.journal_text.specs.Text.{IsSpellable};
-    ghost use Rattle.journal_store.specs.Store.{disk_of, pending_of, reach_of, Stands};
+    ghost use Rattle.journal_store.specs.Store.{disk_of, pending_of, reach_of};
     ghost use Rattle.std.specs.List.{AllByRecursion};
-    ghost use Rattle.registrar_book.specs.Journals.{IsHeld, HasFront, AreSmall, sizes_of};
+    ghost use Rattle.registrar_book.specs.Journals.{HasLog, IsHeld, HasPrefix, AreSmall, sizes_of};
 
     pub fn new(journal: Journal<D>) -> Self
         ensures { result.journal ≡ journal }
@@ -44,14 +44,14 @@ impl<D: Disk> Press<D> {
         requires room { reach_of self.old.journal < 2 ^ 63 }
         ensures ok { IsTrue (D.tells (disk_of self.old.journal))
             → OnOk result ((log : List Entry) (durable : ℕ) → IsHeld D.may_leave self.old.journal log durable
-            → Stands D.may_leave self.new.journal log) }
+            → HasLog D.may_leave self.new.journal log) }
         ensures err { IsTrue (D.tells (disk_of self.old.journal))
             → OnErr result ((log : List Entry) (durable : ℕ) → IsHeld D.may_leave self.old.journal log durable
             → IsHeld D.may_leave self.new.journal log durable) }
         ensures any_moment { IsTrue (D.tells (disk_of self.old.journal))
             → (log : List Entry) (durable : ℕ) → IsHeld D.may_leave self.old.journal log durable
             → LeavesOnly D.moment D.left_since (disk_of self.old.journal) (disk_of self.new.journal)
-            (HasFront (D.may_leave (disk_of self.old.journal)) durable log) }
+            (HasPrefix durable log) }
         ensures pending { OnOk result (pending_of self.new.journal ≡ []) }
         ensures was_pending { OnErr result (pending_of self.old.journal ≢ []) }
         ensures reach { reach_of self.new.journal ≡ reach_of self.old.journal }
@@ -71,28 +71,28 @@ impl<D: Disk> Press<D> {
 
     /// Writes these entries as a batch.
     pub fn put(&mut self, entries: &[Entry]) -> Result<(), Failed>
-        requires stands { IsTrue (D.tells (disk_of self.old.journal)) → (log : List Entry) × Stands D.may_leave self.old.journal log }
+        requires stands { IsTrue (D.tells (disk_of self.old.journal)) → (log : List Entry) × HasLog D.may_leave self.old.journal log }
         requires nothing_pending { pending_of self.old.journal ≡ [] }
         requires some { 1 ≤ length entries.now }
         requires spellable { AllByRecursion IsSpellable entries.now }
         requires sizes { sizes_of entries.now ≤ 4096 }
         requires room { reach_of self.old.journal < 2 ^ 63 }
         ensures ok { IsTrue (D.tells (disk_of self.old.journal))
-            → OnOk result ((log : List Entry) → Stands D.may_leave self.old.journal log
-            → Stands D.may_leave self.new.journal (log ++ entries.now)) }
+            → OnOk result ((log : List Entry) → HasLog D.may_leave self.old.journal log
+            → HasLog D.may_leave self.new.journal (log ++ entries.now)) }
         ensures err { IsTrue (D.tells (disk_of self.old.journal))
-            → OnErr result ((log : List Entry) → Stands D.may_leave self.old.journal log
+            → OnErr result ((log : List Entry) → HasLog D.may_leave self.old.journal log
             → IsHeld D.may_leave self.new.journal (log ++ entries.now) (length log)) }
         ensures any_moment { IsTrue (D.tells (disk_of self.old.journal))
-            → (log : List Entry) → Stands D.may_leave self.old.journal log
+            → (log : List Entry) → HasLog D.may_leave self.old.journal log
             → LeavesOnly D.moment D.left_since (disk_of self.old.journal) (disk_of self.new.journal)
-            (HasFront (D.may_leave (disk_of self.old.journal)) (length log) (log ++ entries.now)) }
+            (HasPrefix (length log) (log ++ entries.now)) }
         ensures pending { OnOk result (pending_of self.new.journal ≡ []) }
         ensures reach { reach_of self.new.journal ≤ reach_of self.old.journal + 4101 }
         ensures cause { HasCause (D.fault_count (disk_of self.old.journal)) (D.fault_count (disk_of self.new.journal)) result }
         ensures tells { D.tells (disk_of self.new.journal) ≡ D.tells (disk_of self.old.journal) }
     {
-        gather_all(entries, &mut self.batch);
+        collect_batch(entries, &mut self.batch);
         match self.journal.append(self.batch.as_slice()) {
             Written::Done => Ok(()),
             Written::Failed => Err(Failed),
@@ -101,18 +101,18 @@ impl<D: Disk> Press<D> {
 
     /// Writes these entries in batches of 32, but for the last, which has the rest.
     pub fn put_all(&mut self, entries: &[Entry]) -> Result<(), Failed>
-        requires stands { IsTrue (D.tells (disk_of self.old.journal)) → (log : List Entry) × Stands D.may_leave self.old.journal log }
+        requires stands { IsTrue (D.tells (disk_of self.old.journal)) → (log : List Entry) × HasLog D.may_leave self.old.journal log }
         requires nothing_pending { pending_of self.old.journal ≡ [] }
         requires spellable { AllByRecursion IsSpellable entries.now }
         requires sizes { AreSmall entries.now }
         requires room { reach_of self.old.journal + 4101 * length entries.now < 2 ^ 63 }
         ensures ok { IsTrue (D.tells (disk_of self.old.journal))
-            → OnOk result ((log : List Entry) → Stands D.may_leave self.old.journal log
-            → Stands D.may_leave self.new.journal (log ++ entries.now)) }
+            → OnOk result ((log : List Entry) → HasLog D.may_leave self.old.journal log
+            → HasLog D.may_leave self.new.journal (log ++ entries.now)) }
         ensures any_moment { IsTrue (D.tells (disk_of self.old.journal))
-            → (log : List Entry) → Stands D.may_leave self.old.journal log
+            → (log : List Entry) → HasLog D.may_leave self.old.journal log
             → LeavesOnly D.moment D.left_since (disk_of self.old.journal) (disk_of self.new.journal)
-            (HasFront (D.may_leave (disk_of self.old.journal)) (length log) (log ++ entries.now)) }
+            (HasPrefix (length log) (log ++ entries.now)) }
         ensures pending { OnOk result (pending_of self.new.journal ≡ []) }
         ensures reach { reach_of self.new.journal ≤ reach_of self.old.journal + 4101 * length entries.now }
         ensures cause { HasCause (D.fault_count (disk_of self.old.journal)) (D.fault_count (disk_of self.new.journal)) result }
@@ -131,7 +131,7 @@ impl<D: Disk> Press<D> {
 }
 
 /// Appends an entry to the batch in hand.
-fn gather(entry: &Entry, batch: &mut ArrayVec<u8, 4096>)
+fn collect_entry(entry: &Entry, batch: &mut ArrayVec<u8, 4096>)
     requires spellable { IsSpellable entry.now }
     requires room { length batch.old.items + size_limit entry.now ≤ 4096 }
     ensures text { batch.new.items ≡ batch.old.items ++ entry_text entry.now }
@@ -142,7 +142,7 @@ fn gather(entry: &Entry, batch: &mut ArrayVec<u8, 4096>)
 }
 
 /// Takes these entries in hand.
-fn gather_all(entries: &[Entry], batch: &mut ArrayVec<u8, 4096>)
+fn collect_batch(entries: &[Entry], batch: &mut ArrayVec<u8, 4096>)
     requires spellable { AllByRecursion IsSpellable entries.now }
     requires sizes { sizes_of entries.now ≤ 4096 }
     ensures text { batch.new.items ≡ entries_text entries.now }
@@ -152,7 +152,7 @@ fn gather_all(entries: &[Entry], batch: &mut ArrayVec<u8, 4096>)
     batch.clear();
     let mut rest = entries;
     while let Some((entry, after)) = rest.split_first() {
-        gather(entry, batch);
+        collect_entry(entry, batch);
         rest = after;
     }
 }

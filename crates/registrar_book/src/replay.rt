@@ -2,7 +2,7 @@
 ghost use Rattle.std.specs.Prelude.{◌≡◌, ◌≤◌, ◌<◌, ◌+◌, ◌^◌, ℕ, Option, List, length, IfOk, IfErr};
 ghost use Rattle.journal_text.specs.declared.settings.Settings.{Settings};
 ghost use Rattle.join_history.specs.Contexts.{context_count};
-ghost use Rattle.registrar_state.specs.State.{StandsFor, spare};
+ghost use Rattle.registrar_state.specs.State.{StandsFor, spare_room};
 ghost use Rattle.registrar_book.specs.Opening.{Row, OpenCause};
 
 use crate::OpenFault;
@@ -22,8 +22,8 @@ const LONGEST: usize = 0x7fff_ffff;
 pub fn replay(alloc: Global, log: &[Entry]) -> Result<RegState, OpenFault>
     ensures short { IfOk result (λ state. length log.now < 2 ^ 31) }
     ensures stands { IfOk result (λ state. StandsFor state log.now) }
-    ensures contexts { IfOk result (λ state. (spare state).contexts + context_count log.now ≡ 32768) }
-    ensures room { IfOk result (λ state. 262144 ≤ length log.now + (spare state).entries) }
+    ensures contexts { IfOk result (λ state. (spare_room state).contexts + context_count log.now ≡ 32768) }
+    ensures room { IfOk result (λ state. 262144 ≤ length log.now + (spare_room state).entries) }
     ensures err { (settings : Settings) (rows : List Row) (now : Option ℕ) → IfErr result (OpenCause log.now settings rows now) }
 {
     if log.len() > LONGEST {

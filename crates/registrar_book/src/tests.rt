@@ -300,7 +300,7 @@ fn settings_text(alloc: Global, count: usize) -> Result<Vec<u8>, Fail> {
     Ok(text)
 }
 
-/// 2,047 batches of 128 entries, and one of so many.
+/// 2,047 batches of 128 entries, and one of `last`.
 fn full_area(alloc: Global, last: usize) -> Result<Vec<u8>, Fail> {
     let batch = settings_text(alloc, 128)?;
     let mut area = Vec::new(alloc);

@@ -208,7 +208,7 @@ rows_set h c to old new changes sets is =
 
 -- ---- Grant and Refuse
 
--- the entry decides this request of the context, and it is told and answered so
+-- the entry decides this request of the context, and it is reported and answered so
 pub record IsDecided (h : List Entry) (e : Entry) (c : ℕ) (l : LastRequest) : Type 0 where
   pub decides : IsDecision c l.number e
   pub time : time_of e ≡ Some l.time

@@ -75,7 +75,7 @@ told_there h c n (Refuse time context number why) (last.Refuse code) is decides 
     (time, number, why, subst (λ (x : ℕ). IsLastDecision h c (Refuse time x number why)) decides.0 is, told)
 told_there h c n _ told is decides not = absurd not
 
--- what is told of the last request is the last answer
+-- what is reported of the last request is the last answer
 pub told_of : (h : List Entry) (c : ℕ) (row : Row) (l : LastRequest) → IsRow h c row → row.last ≡ Some l → IsLastAnswer h c l.told
 told_of h c row l is some =
     let request = last_of_row h c row l is some in

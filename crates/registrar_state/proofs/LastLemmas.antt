@@ -1,4 +1,4 @@
--- What the answer of a decision tells, from its bytes.
+-- What the answer of a decision says, from its bytes.
 use Rattle.std.proofs.Common.{◌≡◌, ◌≢◌, ℕ, zero, suc, ◌^◌, ◌<◌, ◌≤◌, List, [], ◌∷◌, ◌++◌, length, Option, Some, None, Contains, refl, sym, ap, ◌∙◌, subst, arith}
 use Rattle.std.proofs.lemmas.Option.{same_Some}
 use Rattle.key_sets.specs.declared.phase.Phase.{Phase}
@@ -22,7 +22,7 @@ use Rattle.registrar_state.specs.declared.last.Last.{Last}
 use Rattle.registrar_state.specs.declared.last.Last.TheVariants as last
 use Rattle.registrar_state.specs.Last.{IsTold, IsLeaseBehind, IsToldBy}
 
--- an element that a list contains stands in its middle
+-- an element that a list contains is in its middle
 middle_of : {X : Type 0} (xs : List X) (x : X) → Contains xs x → (before : List X) × (after : List X) × (xs ≡ before ++ x ∷ after)
 middle_of [] x has = absurd (omega (arith, has.1))
 middle_of (y ∷ ys) x (zero, small, is) = ([], ys, ap (λ z. z ∷ ys) is)
@@ -105,7 +105,7 @@ not_granted Path = λ is. omega (arith, is)
 not_granted Method = λ is. omega (arith, is)
 not_granted NoAddress = λ is. omega (arith, is)
 
--- what is told by a code and what stands behind it: the lease of a Grant, or the code of a refusal
+-- what a code and the bytes after it say: the lease of a Grant, or the code of a refusal
 pub record IsToldByCode (code : ℕ) (rest : List ℕ) (time : ℕ) (told : Last) : Type 0 where
   pub lease : code ≡ 68 → IsLeaseBehind rest time told
   pub refusal : code ≢ 68 → told ≡ last.Refuse code
@@ -125,7 +125,7 @@ told_text code rest time told by (Refuse at context number why) when is =
     subst (IsTold (Refuse at context number why)) (sym (by.refusal other)) is_code
 told_text code rest time told by _ when is = absurd is
 
--- what is told by an answer's code and what stands behind it
+-- what an answer's code and the bytes after it say
 pub told_by_code : (bytes : List ℕ) (code : ℕ) (rest : List ℕ) (time : ℕ) (told : Last) → bytes ≡ code ∷ rest
     → IsToldByCode code rest time told → IsToldBy bytes time told
 told_by_code bytes code rest time told is by h c n e legal has decides when answer =

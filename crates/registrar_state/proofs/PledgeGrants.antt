@@ -199,13 +199,13 @@ AreLastGrants-released h time x y old new legal last id context address until re
 
 -- ---- what is kept of a pledge, by its place
 
--- what stands at the pledge's place is its last Grant
+-- what is at the pledge's place is its last Grant
 pub kept_at : (h : List Entry) (xs : List LastGrant) (p : PledgeId) (i : ℕ) (x : LastGrant) → AreLastGrants h xs
     → IsPlaceOf xs p i → x ≡ get_or xs i x → IsLastGrant h x × (x.id ≡ p)
 kept_at h xs p i x are place is =
     (are.each x (i, place.0, sym is), ap (λ (y : LastGrant). y.id) is ∙ place.1 x)
 
--- a test of the end of the last Grant tells whether the pledge is live
+-- a test of the end of the last Grant says whether the pledge is live
 pub live_by_end : (h : List Entry) (held : Held) (x : LastGrant) (p : PledgeId) (t : ℕ) (b : Bool) → IsLegal h → AreEpochs h held
     → IsLastGrant h x × (x.id ≡ p) → b ≡ ltb t x.until → IsTrue b ↔ ((a : ℕ) × IsLive h t p a)
 live_by_end h held x p t b legal known (last, id) is =

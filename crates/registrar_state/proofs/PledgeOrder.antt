@@ -87,7 +87,7 @@ gap_at_end xs p n i is first end = record {
   after = λ k d at_least small. absurd (omega (arith, at_least, small, end));
 }
 
--- where another pledge stands there is a gap
+-- where another pledge is there is a gap
 pub gap_before_other : (xs : List LastGrant) (p : PledgeId) (n i : ℕ) (x : LastGrant) → n ≡ number_of p → Ascends IsBefore xs
     → IsFirstFrom xs n i → i < length xs → get_or xs i x ≡ x → (number_of x.id ≡ n → ⊥) → IsGapFor xs p i
 gap_before_other xs p n i x is ascend first small at other = record {
@@ -112,7 +112,7 @@ gap_before_other xs p n i x is ascend first small at other = record {
       ];
 }
 
--- what holds at no place before one, nor of what stands there, holds at no place up to it
+-- what holds at no place before one, nor of what is there, holds at no place up to it
 pub none_up_to : (P : PledgeId → Type 0) (xs : List LastGrant) (i : ℕ) (x : LastGrant) → x ≡ get_or xs i x
     → (P x.id → ⊥) → ((k : ℕ) (d : LastGrant) → k < i → k < length xs → P (get_or xs k d).id → ⊥)
     → (k : ℕ) (d : LastGrant) → k < i + 1 → k < length xs → P (get_or xs k d).id → ⊥

@@ -89,7 +89,7 @@ ascends_from_sorted cmp A (x ∷ xs) less sorted = (
   ascends_from_sorted cmp A xs less (sorted_tail cmp x xs sorted),
 )
 
--- ---- what is told of a result
+-- ---- what a result says
 
 pub IfOk-map : {X E : Type 0} (P Q : X → Type 0) (r : Result X E) → ((x : X) → P x → Q x) → IfOk r P → IfOk r Q
 IfOk-map P Q (Ok x) give told = give x told
@@ -188,10 +188,10 @@ both_true false b is = absurd (cc)
 -- leases that are alike in each field are one
 pub lease_same : (x y : HeldLease) → (eqb x.address y.address && (eqb x.number y.number && eqb x.until y.until)) ≡ true → x ≡ y
 lease_same x y is =
-    let front = both_true (eqb x.address y.address) (eqb x.number y.number && eqb x.until y.until) is in
-    let back = both_true (eqb x.number y.number) (eqb x.until y.until) front.1 in
+    let prefix = both_true (eqb x.address y.address) (eqb x.number y.number && eqb x.until y.until) is in
+    let back = both_true (eqb x.number y.number) (eqb x.until y.until) prefix.1 in
     let lease : ℕ → ℕ → ℕ → HeldLease = λ a n u. record { address = a; number = n; until = u } in
-    ap (λ (a : ℕ). lease a x.number x.until) (eqb-true x.address y.address front.0)
+    ap (λ (a : ℕ). lease a x.number x.until) (eqb-true x.address y.address prefix.0)
     ∙ ap (λ (n : ℕ). lease y.address n x.until) (eqb-true x.number y.number back.0)
     ∙ ap (λ (u : ℕ). lease y.address y.number u) (eqb-true x.until y.until back.1)
 

@@ -34,11 +34,11 @@ abbrev pub IsLeaseOf : (Configuration → Type 0) → ℕ → Last → Type 0
 IsLeaseOf P time last = (keys : Phase) (s : Settings) (a : ℕ) → P (configuration keys s a) → s.hours ≤ 65535 → time < 2 ^ 40
     → last ≡ Grant a (lease_end time s.hours)
 
--- the lease of the Configuration that stands behind the marker of a payload
+-- the lease of the Configuration that comes after the marker of a payload
 abbrev pub IsLeaseBehind : List ℕ → ℕ → Last → Type 0
 IsLeaseBehind bytes time last = (text : List ℕ) → bytes ≡ 255 ∷ text → IsLeaseOf (IsConfig text) time last
 
--- what is told by these bytes, whatever decision of this time has them for its answer
+-- what these bytes say, whatever decision of this time has them for its answer
 abbrev pub IsToldBy : List ℕ → ℕ → Last → Type 0
 IsToldBy bytes time last = (h : List Entry) (c n : ℕ) (e : Entry) → IsLegal h → Contains h e → IsDecision c n e
     → time_of e ≡ Some time → IsAnswer h c n bytes → IsTold e last

@@ -33,7 +33,7 @@ pub record IsGapFor (xs : List LastGrant) (p : PledgeId) (i : ℕ) : Type 0 wher
   pub after : (k : ℕ) (d : LastGrant) → i ≤ k → k < length xs → number_of p < number_of (get_or xs k d).id
 
 -- The new list has this for its pledge, and for each other pledge what the old list has. The pledge of a place is this one, or
--- had a place in the old list that isn't behind it.
+-- had a place in the old list that isn't after it.
 pub record Replaces (old new : List LastGrant) (x : LastGrant) : Type 0 where
   pub ascend : Ascends IsBefore new
   pub has : Contains new x

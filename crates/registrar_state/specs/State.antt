@@ -34,8 +34,8 @@ unfoldable pub reserved_of : RegState → ℕ × ℕ
 reserved_of state = (state.contexts.reserved, capacity_of state.pledges)
 
 -- the room that is left
-unfoldable pub spare : RegState → Room
-spare state = state.room
+unfoldable pub spare_room : RegState → Room
+spare_room state = state.room
 
 -- the context is enrolled in a history that the state stands for
 abbrev pub IsEnrolled : RegState → ℕ → Type 0

@@ -12,7 +12,7 @@ use key_sets::Phase;
 /// 2.04
 const CHANGED: u8 = 68;
 
-/// What stands between the code and the payload.
+/// What is between the code and the payload.
 const MARKER: u8 = 255;
 
 /// Adds keys as a Configuration has them.

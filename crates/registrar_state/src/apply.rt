@@ -9,7 +9,7 @@ ghost use Rattle.journal_text.specs.declared.settings.Settings.{Settings as ASet
 ghost use Rattle.join_history.specs.Leases.{current_settings};
 ghost use Rattle.join_history.specs.Phases.{phase, IsSpreading};
 ghost use Rattle.join_history.specs.Answers as spec;
-ghost use Rattle.registrar_state.specs.State.{StandsFor, spare, reserved_of, CanFollow, HasSettings, IsSome};
+ghost use Rattle.registrar_state.specs.State.{StandsFor, spare_room, reserved_of, CanFollow, HasSettings, IsSome};
 
 use crate::answer::{grant_answer, refusal_answer};
 use crate::contexts::LastRequest;
@@ -35,9 +35,9 @@ impl RegState {
     /// Adds the entry.
     pub fn apply(&mut self, entry: &Entry)
         requires may_follow { CanFollow self.old entry.now }
-        requires room { HasRoomFor (spare self.old) entry.now }
+        requires room { HasRoomFor (spare_room self.old) entry.now }
         ensures stands { (h : List AnEntry) → StandsFor self.old h → StandsFor self.new (h ++ entry.now ∷ []) }
-        ensures room { TakesRoom (spare self.old) (spare self.new) entry.now }
+        ensures room { TakesRoom (spare_room self.old) (spare_room self.new) entry.now }
         ensures memory { reserved_of self.new ≡ reserved_of self.old }
     {
         self.add(entry);
@@ -47,9 +47,9 @@ impl RegState {
     /// Adds the entry to what it changes.
     fn add(&mut self, entry: &Entry)
         requires may { CanFollow self.old entry.now }
-        requires room { HasRoomFor (spare self.old) entry.now }
+        requires room { HasRoomFor (spare_room self.old) entry.now }
         ensures stands { (h : List AnEntry) → StandsFor self.old h → StandsFor self.new (h ++ entry.now ∷ []) }
-        ensures room { TakesRoom (spare self.old) (spare self.new) entry.now }
+        ensures room { TakesRoom (spare_room self.old) (spare_room self.new) entry.now }
         ensures memory { reserved_of self.new ≡ reserved_of self.old }
     {
         match entry {
@@ -89,11 +89,11 @@ impl RegState {
     }
 
     /// Forgets the leases that are over at the last time, and passes the pledges that don't wait.
-    #[tactic(auto, unfolding(crate::specs::State::spare, crate::specs::State::reserved_of))]
+    #[tactic(auto, unfolding(crate::specs::State::spare_room, crate::specs::State::reserved_of))]
     fn settle(&mut self)
         requires { IsSome self.old }
         ensures stands { (h : List AnEntry) → StandsFor self.old h → StandsFor self.new h }
-        ensures room { spare self.new ≡ spare self.old }
+        ensures room { spare_room self.new ≡ spare_room self.old }
         ensures memory { reserved_of self.new ≡ reserved_of self.old }
     {
         self.leases.pass(self.time);
@@ -101,12 +101,12 @@ impl RegState {
     }
 
     /// Adds settings.
-    #[tactic(auto, unfolding(crate::specs::State::spare, crate::specs::State::reserved_of))]
+    #[tactic(auto, unfolding(crate::specs::State::spare_room, crate::specs::State::reserved_of))]
     fn add_settings(&mut self, time: u64, settings: &Settings)
         requires may { CanFollow self.old (entry.Settings time settings.now) }
-        requires room { 0 < (spare self.old).entries }
+        requires room { 0 < (spare_room self.old).entries }
         ensures stands { (h : List AnEntry) → StandsFor self.old h → StandsFor self.new (h ++ entry.Settings time settings.now ∷ []) }
-        ensures room { TakesEntry (spare self.old) (spare self.new) }
+        ensures room { TakesEntry (spare_room self.old) (spare_room self.new) }
         ensures memory { reserved_of self.new ≡ reserved_of self.old }
     {
         self.settings = Some((time, settings.clone().unwrap()));
@@ -115,12 +115,12 @@ impl RegState {
     }
 
     /// Adds the next context.
-    #[tactic(auto, unfolding(crate::specs::State::spare, crate::specs::State::reserved_of))]
+    #[tactic(auto, unfolding(crate::specs::State::spare_room, crate::specs::State::reserved_of))]
     fn add_context(&mut self, context: u32, id: PledgeId, check: [u8; 32])
         requires may { CanFollow self.old (entry.Enroll context id check) }
-        requires room { 0 < (spare self.old).contexts }
+        requires room { 0 < (spare_room self.old).contexts }
         ensures stands { (h : List AnEntry) → StandsFor self.old h → StandsFor self.new (h ++ entry.Enroll context id check ∷ []) }
-        ensures room { TakesContext (spare self.old) (spare self.new) }
+        ensures room { TakesContext (spare_room self.old) (spare_room self.new) }
         ensures memory { reserved_of self.new ≡ reserved_of self.old }
     {
         self.contexts.enroll(id, check);
@@ -128,12 +128,12 @@ impl RegState {
     }
 
     /// Adds a Block.
-    #[tactic(auto, unfolding(crate::specs::State::spare, crate::specs::State::reserved_of))]
+    #[tactic(auto, unfolding(crate::specs::State::spare_room, crate::specs::State::reserved_of))]
     fn add_block(&mut self, context: u32, to: u64)
         requires may { CanFollow self.old (entry.Block context to) }
-        requires room { 0 < (spare self.old).entries }
+        requires room { 0 < (spare_room self.old).entries }
         ensures stands { (h : List AnEntry) → StandsFor self.old h → StandsFor self.new (h ++ entry.Block context to ∷ []) }
-        ensures room { TakesEntry (spare self.old) (spare self.new) }
+        ensures room { TakesEntry (spare_room self.old) (spare_room self.new) }
         ensures memory { reserved_of self.new ≡ reserved_of self.old }
     {
         self.contexts.set_end(context, to);
@@ -141,12 +141,12 @@ impl RegState {
     }
 
     /// Adds a refusal.
-    #[tactic(auto, unfolding(crate::specs::State::spare, crate::specs::State::reserved_of))]
+    #[tactic(auto, unfolding(crate::specs::State::spare_room, crate::specs::State::reserved_of))]
     fn add_refusal(&mut self, time: u64, context: u32, number: u64, why: Refusal)
         requires may { CanFollow self.old (entry.Refuse time context number why) }
-        requires room { 0 < (spare self.old).entries }
+        requires room { 0 < (spare_room self.old).entries }
         ensures stands { (h : List AnEntry) → StandsFor self.old h → StandsFor self.new (h ++ entry.Refuse time context number why ∷ []) }
-        ensures room { TakesEntry (spare self.old) (spare self.new) }
+        ensures room { TakesEntry (spare_room self.old) (spare_room self.new) }
         ensures memory { reserved_of self.new ≡ reserved_of self.old }
     {
         self.contexts.decide(
@@ -163,7 +163,7 @@ impl RegState {
     }
 
     /// Adds a Grant.
-    #[tactic(auto, unfolding(crate::specs::State::spare, crate::specs::State::reserved_of))]
+    #[tactic(auto, unfolding(crate::specs::State::spare_room, crate::specs::State::reserved_of))]
     fn add_grant(
         &mut self,
         time: u64,
@@ -175,9 +175,9 @@ impl RegState {
     )
         requires may { CanFollow self.old (entry.Grant time context number address until) }
         requires pledge { (h : List AnEntry) → StandsFor self.old h → pledge_of h context ≡ Some pledge }
-        requires room { 0 < (spare self.old).entries }
+        requires room { 0 < (spare_room self.old).entries }
         ensures stands { (h : List AnEntry) → StandsFor self.old h → StandsFor self.new (h ++ entry.Grant time context number address until ∷ []) }
-        ensures room { TakesEntry (spare self.old) (spare self.new) }
+        ensures room { TakesEntry (spare_room self.old) (spare_room self.new) }
         ensures memory { reserved_of self.new ≡ reserved_of self.old }
     {
         let answer = self.granted_answer(address);
@@ -208,12 +208,12 @@ impl RegState {
     }
 
     /// Adds a Roll.
-    #[tactic(auto, unfolding(crate::specs::State::spare, crate::specs::State::reserved_of))]
+    #[tactic(auto, unfolding(crate::specs::State::spare_room, crate::specs::State::reserved_of))]
     fn add_roll(&mut self, time: u64, set: &KeySet)
         requires may { CanFollow self.old (entry.Roll time set.now) }
-        requires room { 0 < (spare self.old).entries }
+        requires room { 0 < (spare_room self.old).entries }
         ensures stands { (h : List AnEntry) → StandsFor self.old h → StandsFor self.new (h ++ entry.Roll time set.now ∷ []) }
-        ensures room { TakesEntry (spare self.old) (spare self.new) }
+        ensures room { TakesEntry (spare_room self.old) (spare_room self.new) }
         ensures memory { reserved_of self.new ≡ reserved_of self.old }
     {
         self.phase = rolled(&self.phase, set);
@@ -223,13 +223,13 @@ impl RegState {
     }
 
     /// Adds a Given, of a context of the pledge.
-    #[tactic(auto, unfolding(crate::specs::State::spare, crate::specs::State::reserved_of))]
+    #[tactic(auto, unfolding(crate::specs::State::spare_room, crate::specs::State::reserved_of))]
     fn add_given(&mut self, time: u64, context: u32, number: u64, epoch: u32, pledge: PledgeId)
         requires may { CanFollow self.old (entry.Given time context number epoch) }
         requires pledge { (h : List AnEntry) → StandsFor self.old h → pledge_of h context ≡ Some pledge }
-        requires room { 0 < (spare self.old).entries }
+        requires room { 0 < (spare_room self.old).entries }
         ensures stands { (h : List AnEntry) → StandsFor self.old h → StandsFor self.new (h ++ entry.Given time context number epoch ∷ []) }
-        ensures room { TakesEntry (spare self.old) (spare self.new) }
+        ensures room { TakesEntry (spare_room self.old) (spare_room self.new) }
         ensures memory { reserved_of self.new ≡ reserved_of self.old }
     {
         self.pledges.give(pledge, epoch);
@@ -238,12 +238,12 @@ impl RegState {
     }
 
     /// Adds a Stale.
-    #[tactic(auto, unfolding(crate::specs::State::spare, crate::specs::State::reserved_of))]
+    #[tactic(auto, unfolding(crate::specs::State::spare_room, crate::specs::State::reserved_of))]
     fn add_stale(&mut self, time: u64, pledge: PledgeId, epoch: u32)
         requires may { CanFollow self.old (entry.Stale time pledge epoch) }
-        requires room { 0 < (spare self.old).entries }
+        requires room { 0 < (spare_room self.old).entries }
         ensures stands { (h : List AnEntry) → StandsFor self.old h → StandsFor self.new (h ++ entry.Stale time pledge epoch ∷ []) }
-        ensures room { TakesEntry (spare self.old) (spare self.new) }
+        ensures room { TakesEntry (spare_room self.old) (spare_room self.new) }
         ensures memory { reserved_of self.new ≡ reserved_of self.old }
     {
         self.pledges.mark_stale(pledge, epoch);
@@ -252,12 +252,12 @@ impl RegState {
     }
 
     /// Adds a Switch.
-    #[tactic(auto, unfolding(crate::specs::State::spare, crate::specs::State::reserved_of))]
+    #[tactic(auto, unfolding(crate::specs::State::spare_room, crate::specs::State::reserved_of))]
     fn add_switch(&mut self, time: u64, epoch: u32)
         requires may { CanFollow self.old (entry.Switch time epoch) }
-        requires room { 0 < (spare self.old).entries }
+        requires room { 0 < (spare_room self.old).entries }
         ensures stands { (h : List AnEntry) → StandsFor self.old h → StandsFor self.new (h ++ entry.Switch time epoch ∷ []) }
-        ensures room { TakesEntry (spare self.old) (spare self.new) }
+        ensures room { TakesEntry (spare_room self.old) (spare_room self.new) }
         ensures memory { reserved_of self.new ≡ reserved_of self.old }
     {
         self.phase = switched(&self.phase);
@@ -266,12 +266,12 @@ impl RegState {
     }
 
     /// Adds a Release.
-    #[tactic(auto, unfolding(crate::specs::State::spare, crate::specs::State::reserved_of))]
+    #[tactic(auto, unfolding(crate::specs::State::spare_room, crate::specs::State::reserved_of))]
     fn add_release(&mut self, time: u64, pledge: PledgeId)
         requires may { CanFollow self.old (entry.Release time pledge) }
-        requires room { 0 < (spare self.old).entries }
+        requires room { 0 < (spare_room self.old).entries }
         ensures stands { (h : List AnEntry) → StandsFor self.old h → StandsFor self.new (h ++ entry.Release time pledge ∷ []) }
-        ensures room { TakesEntry (spare self.old) (spare self.new) }
+        ensures room { TakesEntry (spare_room self.old) (spare_room self.new) }
         ensures memory { reserved_of self.new ≡ reserved_of self.old }
     {
         self.leases.release(pledge);

@@ -55,7 +55,7 @@ fn lease_in(bytes: &[u8], time: u64) -> Last
     }
 }
 
-/// The lease that stands behind the marker of a Grant's payload.
+/// The lease that comes after the marker of a Grant's payload.
 fn lease_behind(payload: &[u8], time: u64) -> Last
     ensures { IsLeaseBehind payload.now time result }
 {
@@ -65,7 +65,7 @@ fn lease_behind(payload: &[u8], time: u64) -> Last
     }
 }
 
-/// What an answer of this code told.
+/// What an answer of this code said.
 fn told_by(code: u8, payload: &[u8], time: u64) -> Last
     ensures lease { code ≡ 68 → IsLeaseBehind payload.now time result }
     ensures refusal { code ≢ 68 → result ≡ last.Refuse code }
@@ -77,7 +77,7 @@ fn told_by(code: u8, payload: &[u8], time: u64) -> Last
     }
 }
 
-/// What the answer of a decision that was made at this time told: read from its bytes.
+/// What the answer of a decision that was made at this time said: read from its bytes.
 pub(crate) fn told_of(answer: &[u8], time: u64) -> Last
     ensures { IsToldBy answer.now time result }
 {

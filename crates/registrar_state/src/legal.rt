@@ -44,7 +44,7 @@ const MOST_REFUSED: usize = 16;
 /// The seconds of an hour.
 const SECONDS_AN_HOUR: u64 = 3600;
 
-/// The second at which a lease of so many hours ends, or 2^64 - 1 where it has no end.
+/// The second at which a lease of `hours` hours ends, or 2^64 - 1 where it has no end.
 pub(crate) fn lease_end(at: u64, hours: u16) -> u64
     requires { at < 2 ^ 40 }
     ensures { result ≡ leases.lease_end at hours }
@@ -117,7 +117,7 @@ fn is_next_end(old: u64, to: u64) -> bool
     to <= NUMBER_END && to == old.saturating_add(BLOCK)
 }
 
-/// Whether the next context may have this number, where so many are enrolled.
+/// Whether the next context may have this number, where `count` are enrolled.
 fn is_next_context(count: usize, context: u32) -> bool
     ensures { IsTrue result ↔ ((context ≡ count) × (context < 32768)) }
 {

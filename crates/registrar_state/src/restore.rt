@@ -7,7 +7,7 @@ ghost use Rattle.join_history.specs.Summary.{IsSumRequest, AreSumRequests, IsSum
 ghost use Rattle.registrar_state.specs.Contexts.{IsLastRequest, IsLastOf, IsRow};
 ghost use Rattle.registrar_state.specs.Leases.{AreLeases};
 ghost use Rattle.registrar_state.specs.Restore.{IsReadableRequest, AreReadable, IsReadable, IsRowFor, AreRowsFor, GivesAll, leases_in};
-ghost use Rattle.registrar_state.specs.State.{StandsFor, spare};
+ghost use Rattle.registrar_state.specs.State.{StandsFor, spare_room};
 ghost use Rattle.registrar_state.specs.Summary.{lease_of};
 
 use crate::apply::spread_epoch;
@@ -141,7 +141,7 @@ fn leases_of(alloc: Global, summary: &RegSummary, room: u32) -> Result<Leases, N
 impl RegState {
     /// The state of each history that has this summary, with room for contexts up to `contexts` in
     /// all and for `entries` other entries. It takes memory.
-    #[tactic(auto, unfolding(crate::specs::State::spare))]
+    #[tactic(auto, unfolding(crate::specs::State::spare_room))]
     pub fn of_summary(
         alloc: Global,
         summary: &RegSummary,
@@ -151,8 +151,8 @@ impl RegState {
         requires readable { IsReadable (said_by summary.now) }
         requires contexts { length summary.now.contexts.items ≤ contexts }
         ensures stands { IfOk result (λ state. (h : List Entry) → IsLegal h → IsSummary h (said_by summary.now) → StandsFor state h) }
-        ensures contexts { IfOk result (λ state. (spare state).contexts + length summary.now.contexts.items ≡ contexts) }
-        ensures entries { IfOk result (λ state. (spare state).entries ≡ entries) }
+        ensures contexts { IfOk result (λ state. (spare_room state).contexts + length summary.now.contexts.items ≡ contexts) }
+        ensures entries { IfOk result (λ state. (spare_room state).entries ≡ entries) }
     {
         let table = contexts_of(alloc, &summary.contexts, contexts)?;
         let leases = leases_of(alloc, summary, entries)?;

@@ -41,14 +41,14 @@ pub struct RegState {
 
 impl RegState {
     ghost use Rattle.std.specs.Prelude.{[], IfOk};
-    ghost use Rattle.registrar_state.specs.State.{StandsFor, spare};
+    ghost use Rattle.registrar_state.specs.State.{StandsFor, spare_room};
 
-    /// The state of the empty history, with room for so many contexts and so many other entries.
-    #[tactic(auto, unfolding(crate::specs::State::spare))]
+    /// The state of the empty history, with room for `contexts` contexts and `entries` other entries.
+    #[tactic(auto, unfolding(crate::specs::State::spare_room))]
     pub fn empty(alloc: Global, contexts: u32, entries: u32) -> Result<RegState, NoMemory>
         ensures empty { IfOk result (λ state. StandsFor state []) }
-        ensures contexts { IfOk result (λ state. (spare state).contexts ≡ contexts) }
-        ensures entries { IfOk result (λ state. (spare state).entries ≡ entries) }
+        ensures contexts { IfOk result (λ state. (spare_room state).contexts ≡ contexts) }
+        ensures entries { IfOk result (λ state. (spare_room state).entries ≡ entries) }
     {
         let table = Contexts::empty(alloc, contexts)?;
         let leases = match Leases::empty(alloc, entries) {

@@ -1,7 +1,7 @@
 //! States of short histories, before and after they go through a summary. What is expected is worked out by hand from the rules.
 ghost use Rattle.std.specs.Prelude.{IfOk, IsTrue};
 ghost use Rattle.registrar_state.specs.Room.{HasRoomFor};
-ghost use Rattle.registrar_state.specs.State.{IsSome, spare};
+ghost use Rattle.registrar_state.specs.State.{IsSome, spare_room};
 
 use crate::{Last, RegState};
 use arrayvec::ArrayVec;
@@ -12,7 +12,7 @@ use key_sets::KeySet;
 use std::alloc::Global;
 use std::test::Fail;
 
-/// A pool of so many addresses from 1 on.
+/// A pool of `count` addresses from 1 on.
 fn settings(count: u16, hours: u16) -> Settings {
     Settings {
         first: 1,
@@ -60,9 +60,9 @@ fn refuse(time: u64, context: u32, number: u64) -> Entry {
 }
 
 /// Whether there is room for the entry.
-#[tactic(auto, unfolding(crate::specs::State::spare))]
+#[tactic(auto, unfolding(crate::specs::State::spare_room))]
 fn has_room(state: &RegState, entry: &Entry) -> bool
-    ensures { IsTrue result → HasRoomFor (spare state.now) entry.now }
+    ensures { IsTrue result → HasRoomFor (spare_room state.now) entry.now }
 {
     match entry {
         Entry::Enroll { .. } => state.room.contexts > 0,
@@ -104,7 +104,7 @@ fn state_of(alloc: Global, entries: &[Entry]) -> Result<RegState, Fail>
     Ok(state)
 }
 
-/// What a request to join is due, where its context is enrolled and settings stand.
+/// What a request to join is due, where its context is enrolled and there are settings.
 fn due_of(state: &RegState, context: u32, number: u32, now: u64) -> Option<Due>
     requires { IsSome state.now }
 {

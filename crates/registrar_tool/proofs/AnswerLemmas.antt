@@ -1,4 +1,4 @@
--- A request that a book answered, as it is told.
+-- A request that a book answered, as it is reported.
 use Rattle.std.proofs.Common.{◌≡◌, ℕ, ◌≤◌, List, [], ◌∷◌, ◌++◌, length, refl, sym, ◌∙◌, ap, subst, append-nil, arith, inl, inr, length-append}
 use Rattle.std.specs.Prelude.{IsTrue}
 use Rattle.std.specs.List.{AllZip}
@@ -28,13 +28,13 @@ use Rattle.registrar_state.proofs.StateLemmas.{IsLegal-stands}
 use Rattle.registrar_book.specs.declared.answers.Decided.{Decided}
 use Rattle.registrar_book.specs.declared.answers.Decided.TheVariants as decided
 use Rattle.registrar_book.specs.declared.book.Book.{Book}
-use Rattle.registrar_book.specs.Journals.{HasFront}
-use Rattle.registrar_book.specs.Books.{log_of, state_of, durable_of, book_disk, IsKept, IsDecided, IsSure, LeavesDurable, HasDecidedCause, Adds}
-use Rattle.registrar_book.proofs.Fronts.{held_front}
+use Rattle.registrar_book.specs.Journals.{HasPrefix}
+use Rattle.registrar_book.specs.Books.{log_of, state_of, durable_of, book_disk, IsKept, IsDecided, IsDurableUnlessUnsure, LeavesDurable, HasDecidedCause, Adds}
+use Rattle.registrar_book.proofs.Prefixes.{held_prefix}
 use Rattle.registrar_book.proofs.Placing.{zip_map}
 use Rattle.tool_text.specs.declared.outcome.Outcome.{Outcome}
 use Rattle.tool_text.specs.declared.outcome.Outcome.TheVariants as outcome
-use Rattle.registrar_tool.specs.Told.{Standing, IsOutcome, IsToldRequest, IsSettled, IsSafe, IsAnswered, HasPlace, added, granted_of, again_of}
+use Rattle.registrar_tool.specs.Told.{Standing, IsOutcome, IsToldRequest, HasDurability, IsSafe, IsAnswered, HasPlace, added_entries, granted_of, again_of}
 use Rattle.registrar_tool.specs.Opened.{HasIdContext, IsReady, standing_of}
 
 -- ---- outcomes
@@ -61,9 +61,9 @@ not_full g c (Add _) n is = is
 not_full g c Again n is = again_placed is.0 n is.2
 not_full g c (Quiet why) n is = cc
 
--- what is due was told, and the history is durable
+-- what is due was reported, and the history is durable
 pub due_told : {D : Type 0} (ghosts : Ghosts D) (old new : Standing D) (time c n : ℕ) (due : Due) (o : Outcome) (more : List Entry) → IsDue old.history time c n Join due → HasPlace old.history due
-    → IsOutcome old.history c due o → more ≡ added due → new.durable ≡ length new.history → IsToldRequest old.history time c n o more × IsSettled ghosts old o more new
+    → IsOutcome old.history c due o → more ≡ added_entries due → new.durable ≡ length new.history → IsToldRequest old.history time c n o more × HasDurability ghosts old o more new
 due_told ghosts old new time c n due (outcome.Grant address until) more is place told adds all = ((due, is, place, told, adds), all)
 due_told ghosts old new time c n due (outcome.Refuse code) more is place told adds all = ((due, is, place, told, adds), all)
 due_told ghosts old new time c n due (outcome.AgainGrant address until) more is place told adds all = ((due, is, place, told, adds), all)
@@ -132,17 +132,17 @@ decided_settings g now c n (decided.Unsure at faults) added length is = elim is.
 
 module _ {D : Type 0} {ghosts : Ghosts D} (old new : Book D ghosts) (time c n : ℕ) (answer : Decided) (ids : List PledgeId) (contexts : List ℕ) (ready : IsReady old ids contexts)
     (adds : Adds old new (log_of old) time c n Join answer) (kept : IsTrue (ghosts.tells (book_disk old)) → IsKept ghosts.may_leave new)
-    (any : IsTrue (ghosts.tells (book_disk old)) → LeavesOnly ghosts.moment ghosts.left_since (book_disk old) (book_disk new) (HasFront (ghosts.may_leave (book_disk old)) (durable_of old) (log_of new)))
+    (any : IsTrue (ghosts.tells (book_disk old)) → LeavesOnly ghosts.moment ghosts.left_since (book_disk old) (book_disk new) (HasPrefix (durable_of old) (log_of new)))
     (tells : ghosts.tells (book_disk new) ≡ ghosts.tells (book_disk old)) (counted : ghosts.fault_count (book_disk old) ≤ ghosts.fault_count (book_disk new)) where
   stands_now : StandsFor (state_of new) (log_of new)
   stands_now = subst (StandsFor (state_of new)) (sym adds.log) adds.stands
 
   pub safe_now : IsSafe ghosts (standing_of new)
   unfolding IsKept
-  safe_now told image left = held_front ghosts.may_leave new.press.journal (log_of new) (durable_of new) (kept (subst IsTrue tells told)) image left
+  safe_now told image left = held_prefix ghosts.may_leave new.press.journal (log_of new) (durable_of new) (kept (subst IsTrue tells told)) image left
 
-  -- what was told of it
-  pub answered : (o : Outcome) → IsToldRequest (log_of old) time c n o adds.added → IsSettled ghosts (standing_of old) o adds.added (standing_of new) → IsAnswered ghosts (standing_of old) time c n o (standing_of new)
+  -- what was reported of it
+  pub answered : (o : Outcome) → IsToldRequest (log_of old) time c n o adds.added → HasDurability ghosts (standing_of old) o adds.added (standing_of new) → IsAnswered ghosts (standing_of old) time c n o (standing_of new)
   answered o told settled = record {
     more = adds.added;
     told = told;
@@ -168,22 +168,22 @@ module _ {D : Type 0} {ghosts : Ghosts D} (old new : Book D ghosts) (time c n : 
 -- ---- each answer of a book
 
 module _ {D : Type 0} {ghosts : Ghosts D} (old new : Book D ghosts) (time c n : ℕ) where
-  pub made_told : (at : ℕ) (l : Last) (adds : Adds old new (log_of old) time c n Join (decided.Made at)) → IsSure (decided.Made at) (durable_of new) (length (log_of new))
-      → IsLastAnswer (log_of new) c l → IsToldRequest (log_of old) time c n (granted_of l) adds.added × IsSettled ghosts (standing_of old) (granted_of l) adds.added (standing_of new)
+  pub made_told : (at : ℕ) (l : Last) (adds : Adds old new (log_of old) time c n Join (decided.Made at)) → IsDurableUnlessUnsure (decided.Made at) (durable_of new) (length (log_of new))
+      → IsLastAnswer (log_of new) c l → IsToldRequest (log_of old) time c n (granted_of l) adds.added × HasDurability ghosts (standing_of old) (granted_of l) adds.added (standing_of new)
   made_told at l adds sure is =
       let e = adds.decided.0 in
       let log : log_of new ≡ log_of old ++ e ∷ [] = adds.log ∙ ap (λ (x : List Entry). log_of old ++ x) adds.decided.2 in
       let told = granted_told (log_of old) (moment (log_of old) time) c n e l adds.decided.1.1 (subst (λ (h : List Entry). IsLastAnswer h c l) log is) in
       due_told ghosts (standing_of old) (standing_of new) time c n (Add e) (granted_of l) adds.added adds.decided.1 (omega (arith, adds.decided.4, ap length log, length-append (log_of old) (e ∷ []))) told adds.decided.2 sure
 
-  pub again_told : (at : ℕ) (l : Last) (adds : Adds old new (log_of old) time c n Join (decided.Again at)) → IsSure (decided.Again at) (durable_of new) (length (log_of new))
-      → IsLastAnswer (log_of new) c l → IsToldRequest (log_of old) time c n (again_of l) adds.added × IsSettled ghosts (standing_of old) (again_of l) adds.added (standing_of new)
+  pub again_told : (at : ℕ) (l : Last) (adds : Adds old new (log_of old) time c n Join (decided.Again at)) → IsDurableUnlessUnsure (decided.Again at) (durable_of new) (length (log_of new))
+      → IsLastAnswer (log_of new) c l → IsToldRequest (log_of old) time c n (again_of l) adds.added × HasDurability ghosts (standing_of old) (again_of l) adds.added (standing_of new)
   again_told at l adds sure is =
       let log : log_of new ≡ log_of old = adds.log ∙ ap (λ (x : List Entry). log_of old ++ x) adds.decided.1 ∙ append-nil (log_of old) in
       due_told ghosts (standing_of old) (standing_of new) time c n Again (again_of l) adds.added adds.decided.0 tt (l, subst (λ (h : List Entry). IsLastAnswer h c l) log is, refl) adds.decided.1 sure
 
-  pub quiet_told : (why : _) (at : ℕ) (adds : Adds old new (log_of old) time c n Join (decided.Quiet why at)) → IsSure (decided.Quiet why at) (durable_of new) (length (log_of new))
-      → IsToldRequest (log_of old) time c n (outcome.Quiet why) adds.added × IsSettled ghosts (standing_of old) (outcome.Quiet why) adds.added (standing_of new)
+  pub quiet_told : (why : _) (at : ℕ) (adds : Adds old new (log_of old) time c n Join (decided.Quiet why at)) → IsDurableUnlessUnsure (decided.Quiet why at) (durable_of new) (length (log_of new))
+      → IsToldRequest (log_of old) time c n (outcome.Quiet why) adds.added × HasDurability ghosts (standing_of old) (outcome.Quiet why) adds.added (standing_of new)
   quiet_told why at adds sure = due_told ghosts (standing_of old) (standing_of new) time c n (Quiet why) (outcome.Quiet why) adds.added adds.decided.0 tt refl adds.decided.1 sure
 
   pub full_told : (at : ℕ) (adds : Adds old new (log_of old) time c n Join (decided.Full at)) → IsToldRequest (log_of old) time c n (outcome.Full at) adds.added
@@ -200,12 +200,12 @@ module _ {D : Type 0} {ghosts : Ghosts D} (old new : Book D ghosts) (time c n : 
   ]
 
   unsure_rose : (more : List Entry) (at faults : ℕ) → HasDecidedCause (ghosts.fault_count (book_disk old)) (ghosts.fault_count (book_disk new)) (decided.Unsure at faults)
-      → LeavesDurable (decided.Unsure at faults) more (durable_of old) (length (log_of old)) (durable_of new) → IsSettled ghosts (standing_of old) (outcome.Unsure faults) more (standing_of new)
+      → LeavesDurable (decided.Unsure at faults) more (durable_of old) (length (log_of old)) (durable_of new) → HasDurability ghosts (standing_of old) (outcome.Unsure faults) more (standing_of new)
   unsure_rose [] at faults cause leaves = (subst (Rose (ghosts.fault_count (book_disk old))) (sym cause.1) cause.0, cause.1, leaves.0, leaves.1)
   unsure_rose (e ∷ more) at faults cause leaves = (subst (Rose (ghosts.fault_count (book_disk old))) (sym cause.1) cause.0, cause.1, leaves)
 
   pub unsure_settled : (at faults : ℕ) (adds : Adds old new (log_of old) time c n Join (decided.Unsure at faults))
-      → HasDecidedCause (ghosts.fault_count (book_disk old)) (ghosts.fault_count (book_disk new)) (decided.Unsure at faults) → IsSettled ghosts (standing_of old) (outcome.Unsure faults) adds.added (standing_of new)
+      → HasDecidedCause (ghosts.fault_count (book_disk old)) (ghosts.fault_count (book_disk new)) (decided.Unsure at faults) → HasDurability ghosts (standing_of old) (outcome.Unsure faults) adds.added (standing_of new)
   unsure_settled at faults adds cause = unsure_rose adds.added at faults cause adds.durable
 
 -- ---- there is a last decision

@@ -57,7 +57,7 @@ module _ (limit : ℕ) (bytes : List ℕ) (lines : List Line) where
         | inr wrong ↦ AreAskable-seen [] lines ids wrong.1.before lists wrong.1.each
       ]
 
--- the lines behind the first can be asked too
+-- the lines after the first can be asked too
 pub AreAskable-rest : (ids : List PledgeId) (line : Line) (rest : List Line) → AreAskable ids (line ∷ rest) → AreAskable ids rest
 AreAskable-rest ids Skipped rest askable = askable
 AreAskable-rest ids (Ask time id number) rest askable = askable.2

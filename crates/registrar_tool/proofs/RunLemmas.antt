@@ -7,15 +7,15 @@ use Rattle.edge_traits.specs.declared.disk.Disk.{Ghosts}
 use Rattle.edge_traits.proofs.Moments.{started}
 use Rattle.journal_text.specs.declared.entry.Entry.{Entry}
 use Rattle.join_history.specs.Legal.{IsLegal}
-use Rattle.registrar_book.specs.Journals.{HasFront}
-use Rattle.registrar_book.proofs.Fronts.{settled_then}
+use Rattle.registrar_book.specs.Journals.{HasPrefix}
+use Rattle.registrar_book.proofs.Prefixes.{settled_then}
 use Rattle.tool_text.specs.declared.line.Line.{Line}
 use Rattle.tool_text.specs.declared.line.Line.TheVariants.{Skipped, Ask}
 use Rattle.tool_text.specs.declared.outcome.Outcome.{Outcome}
 use Rattle.tool_text.specs.declared.outcome.Outcome.TheVariants as outcome
 use Rattle.tool_text.specs.Outcome.{outcome_text}
-use Rattle.tool_text.proofs.WritingLemmas.{Appends-nothing, Appends-append}
-use Rattle.registrar_tool.specs.Told.{Standing, IsSafe, IsSettled, IsAnswered, IsTold, IsToldLine, AreMoments}
+use Rattle.edge_traits.proofs.Appends.{Appends-nothing, Appends-append}
+use Rattle.registrar_tool.specs.Told.{Standing, IsSafe, HasDurability, IsAnswered, IsTold, IsToldLine, AreMoments}
 use Rattle.registrar_tool.specs.Run.{text_of, AreDone, AreCutShort}
 use Rattle.registrar_tool.specs.Lines.{IsLineDone, IsLineCut}
 
@@ -94,7 +94,7 @@ module _ {D : Type 0} (ghosts : Ghosts D) where
       between = between;
       outcome = cut.outcome;
       last = new;
-      front = cut.appended.front;
+      prefix = cut.appended.prefix;
       missing = cut.appended.rest;
       lines_are = so_far.lines_are;
       told = so_far.told;
@@ -104,7 +104,7 @@ module _ {D : Type 0} (ghosts : Ghosts D) where
       text = cut.appended.parts;
       some_missing = cut.appended.missing;
       appended =
-          Appends-append written before now (text_of so_far.outcomes) cut.appended.front so_far.appended cut.appended.appended;
+          Appends-append written before now (text_of so_far.outcomes) cut.appended.prefix so_far.appended cut.appended.appended;
     }
 
   -- all were done
@@ -131,12 +131,12 @@ module _ {D : Type 0} (ghosts : Ghosts D) where
     legal = legal;
     least = omega arith;
     most = omega (arith, durable);
-    any_moment = λ told. started ghosts.moment ghosts.left_since start.disk (HasFront (ghosts.may_leave start.disk) start.durable start.history)
+    any_moment = λ told. started ghosts.moment ghosts.left_since start.disk (HasPrefix start.durable start.history)
         (λ image left. safe told image (only_now image left));
     tells = refl;
   }
 
-  settled_most : (old new : Standing D) (o : Outcome) (more : List Entry) → new.history ≡ old.history ++ more → old.durable ≤ length old.history → IsSettled ghosts old o more new → new.durable ≤ length new.history
+  settled_most : (old new : Standing D) (o : Outcome) (more : List Entry) → new.history ≡ old.history ++ more → old.durable ≤ length old.history → HasDurability ghosts old o more new → new.durable ≤ length new.history
   settled_most old new (outcome.Unsure faults) [] is most settled = omega (arith, settled.3, most, ap length is, length-append old.history [])
   settled_most old new (outcome.Unsure faults) (e ∷ more) is most settled = omega (arith, settled.2, ap length is, length-append old.history (e ∷ more))
   settled_most old new (outcome.Grant address until) more is most settled = omega (arith, settled)
@@ -146,7 +146,7 @@ module _ {D : Type 0} (ghosts : Ghosts D) where
   settled_most old new (outcome.Quiet why) more is most settled = omega (arith, settled)
   settled_most old new (outcome.Full entries) more is most settled = omega (arith, settled)
 
-  settled_least : (old new : Standing D) (o : Outcome) (more : List Entry) → new.history ≡ old.history ++ more → old.durable ≤ length old.history → IsSettled ghosts old o more new → old.durable ≤ new.durable
+  settled_least : (old new : Standing D) (o : Outcome) (more : List Entry) → new.history ≡ old.history ++ more → old.durable ≤ length old.history → HasDurability ghosts old o more new → old.durable ≤ new.durable
   settled_least old new (outcome.Unsure faults) [] is most settled = omega (arith, settled.3)
   settled_least old new (outcome.Unsure faults) (e ∷ more) is most settled = omega (arith, settled.2, most)
   settled_least old new (outcome.Grant address until) more is most settled = omega (arith, settled, most, ap length is, length-append old.history more)
@@ -156,8 +156,7 @@ module _ {D : Type 0} (ghosts : Ghosts D) where
   settled_least old new (outcome.Quiet why) more is most settled = omega (arith, settled, most, ap length is, length-append old.history more)
   settled_least old new (outcome.Full entries) more is most settled = omega (arith, settled, most, ap length is, length-append old.history more)
 
-  module _ (start between new : Standing D) (so_far : AreMoments ghosts start between)
-      (counts_now : (image : Areas) → ghosts.moment start.disk ≤ ghosts.moment between.disk → ghosts.may_leave between.disk image → ghosts.left_since between.disk (ghosts.moment start.disk) image) where
+  module _ (start between new : Standing D) (so_far : AreMoments ghosts start between) where
     answered_moments : (time c n : ℕ) (o : Outcome) → IsAnswered ghosts between time c n o new → AreMoments ghosts start new
     answered_moments time c n o is = record {
       more = so_far.more ++ is.more;
@@ -166,7 +165,7 @@ module _ {D : Type 0} (ghosts : Ghosts D) where
       least = omega (arith, so_far.least, settled_least between new o is.more is.history so_far.most is.settled);
       most = settled_most between new o is.more is.history so_far.most is.settled;
       any_moment = λ told.
-          settled_then ghosts.may_leave ghosts.moment ghosts.left_since start.disk between.disk new.disk start.durable between.durable between.history is.more new.history is.history so_far.least counts_now
+          settled_then ghosts.may_leave ghosts.moment ghosts.left_since start.disk between.disk new.disk start.durable between.durable between.history is.more new.history is.history so_far.least
           (so_far.any_moment told) (is.any_moment (subst IsTrue (sym so_far.tells) told));
       tells = is.tells ∙ so_far.tells;
     }

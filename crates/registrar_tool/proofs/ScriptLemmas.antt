@@ -43,7 +43,7 @@ ask_count-push [] line = omega arith
 ask_count-push (Skipped ∷ lines) line = ask_count-push lines line
 ask_count-push (Ask time id number ∷ lines) line = omega (arith, ask_count-push lines line)
 
--- the bytes that a line and the rest behind it take
+-- the bytes that a line and the rest after it take
 length-first : (bytes line rest : List ℕ) → IsFirstLine bytes line rest → length line + length rest ≤ length bytes
 length-first bytes line rest first =
     elim first.parts [

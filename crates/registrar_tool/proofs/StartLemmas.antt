@@ -14,18 +14,17 @@ use Rattle.join_history.specs.Leases.{current_settings}
 use Rattle.join_history.specs.Opening.{EnrollsRows, IsOpened}
 use Rattle.join_history.proofs.SettingsLemmas.{current_settings-push}
 use Rattle.registrar_state.proofs.StateLemmas.{IsLegal-stands}
-use Rattle.journal_store.specs.Store.{HasRight}
 use Rattle.journal_store.proofs.Steps.{LeavesOnly-map}
 use Rattle.registrar_book.specs.declared.book.Book.{Book}
-use Rattle.registrar_book.specs.Journals.{HasFront}
+use Rattle.registrar_book.specs.Journals.{HasPrefix}
 use Rattle.registrar_book.specs.Opening.{Row, HasContext, opening_time}
 use Rattle.registrar_book.specs.Books.{log_of, state_of, durable_of, book_disk, IsKept, IsOpenOn}
-use Rattle.registrar_book.proofs.Fronts.{held_front, longer_front}
+use Rattle.registrar_book.proofs.Prefixes.{held_prefix, longer_prefix}
 use Rattle.tool_text.specs.declared.line.Line.{Line}
 use Rattle.registrar_tool.specs.Script.{ListsOnce, IsScript, IsWrongAt, AreGoodLines}
 use Rattle.registrar_tool.specs.Told.{Standing, decide_row, AreMoments}
 use Rattle.registrar_tool.specs.Opened.{HasIdContext, IsReady, standing_of}
-use Rattle.registrar_tool.specs.Run.{IsStart, LeavesFronts, IsWhole, IsWrongFrom, IsCut, AreDone, AreCutShort, script_limit}
+use Rattle.registrar_tool.specs.Run.{IsStart, LeavesPrefixes, IsWhole, IsWrongFrom, IsCut, AreDone, AreCutShort, script_limit}
 
 -- ---- opened histories
 
@@ -77,7 +76,7 @@ module _ {D : Type 0} {ghosts : Ghosts D} (disk : D) (settings : Settings) (ids 
     most = opened.is_open.most;
     durable = opened.is_open.durable;
     counted = counted;
-    safe = λ told image left. held_front ghosts.may_leave book.press.journal (log_of book) (durable_of book) (kept (subst IsTrue tells told)) image left;
+    safe = λ told image left. held_prefix ghosts.may_leave book.press.journal (log_of book) (durable_of book) (kept (subst IsTrue tells told)) image left;
     tells = tells;
   }
 
@@ -90,42 +89,32 @@ module _ {D : Type 0} {ghosts : Ghosts D} (disk : D) (settings : Settings) (ids 
     kept = λ told. kept (subst IsTrue tells told);
   }
 
-  right_before : (image : Areas) → ghosts.may_leave disk image ⊎ HasFront (ghosts.may_leave disk) (length opened.log) (log_of book) image → HasRight (ghosts.may_leave disk) image
-  right_before image (inl left) = (image, left, refl)
-  right_before image (inr has) = has.right
-
   -- what a crash leaves of a whole run
-  run_fronts : (last : Standing D) (end : D) → last.disk ≡ end → AreMoments ghosts (standing_of book) last
-      → (IsTrue (ghosts.tells disk) → (image : Areas) → ghosts.moment disk ≤ ghosts.moment (book_disk book) → ghosts.may_leave (book_disk book) image → ghosts.left_since (book_disk book) (ghosts.moment disk) image)
-      → LeavesFronts ghosts disk opened.log last.history end
-  run_fronts last end is moments counts_now told =
+  run_prefixes : (last : Standing D) (end : D) → last.disk ≡ end → AreMoments ghosts (standing_of book) last
+      → LeavesPrefixes ghosts disk opened.log last.history end
+  run_prefixes last end is moments told =
       let first = opened.any_moment told in
       let log = opened.log in
       let log_is = opened.log_is told in
       let grown = opened_grows log (opening_time log None) settings (map decide_row ids) (log_of book) opened.is_open.opened in
-      let second = subst (λ (d : D). LeavesOnly ghosts.moment ghosts.left_since (book_disk book) d (HasFront (ghosts.may_leave (book_disk book)) (durable_of book) last.history)) is
+      let second = subst (λ (d : D). LeavesOnly ghosts.moment ghosts.left_since (book_disk book) d (HasPrefix (durable_of book) last.history)) is
       (moments.any_moment (subst IsTrue (sym tells) told)) in
-      let P : Areas → Type 0 = λ image. ghosts.may_leave disk image ⊎ HasFront (ghosts.may_leave disk) (length log) last.history image in
-      joined ghosts.moment ghosts.left_since disk (book_disk book) end P (HasFront (ghosts.may_leave (book_disk book)) (durable_of book) last.history)
+      let P : Areas → Type 0 = λ image. ghosts.may_leave disk image ⊎ HasPrefix (length log) last.history image in
+      joined ghosts.moment ghosts.left_since disk (book_disk book) end P (HasPrefix (durable_of book) last.history)
       (LeavesOnly-map ghosts.moment ghosts.left_since ghosts.may_leave disk (book_disk book)
-      (λ image. ghosts.may_leave disk image ⊎ HasFront (ghosts.may_leave disk) (length log) (log_of book) image) P first
+      (λ image. ghosts.may_leave disk image ⊎ HasPrefix (length log) (log_of book) image) P first
       (λ image was. elim was [
         | inl left ↦ inl left
-        | inr has ↦ inr (longer_front (ghosts.may_leave disk) (length log) (log_of book) moments.more last.history image moments.history has)
+        | inr has ↦ inr (longer_prefix (length log) (log_of book) moments.more last.history image moments.history has)
       ])) second
-      (λ image has.
-      let before = right_before has.right.0 (first.each has.right.0 (counts_now told has.right.0 first.later has.right.1)) in
-      inr (record {
+      (λ image has. inr (record {
         count = has.count;
         least = omega (arith, has.least, opened.is_open.durable, ap length grown.1, length-append log grown.0);
         most = has.most;
-        end = has.end;
-        is_log = has.is_log;
-        right = (before.0, before.1, has.right.2 ∙ before.2);
+        has = has.has;
       }))
 
-  module _ (bytes : List ℕ) (lines : List Line) (listed : ListsOnce [] lines ids) (written now : Option (List ℕ)) (end : D)
-      (counts_now : IsTrue (ghosts.tells disk) → (image : Areas) → ghosts.moment disk ≤ ghosts.moment (book_disk book) → ghosts.may_leave (book_disk book) image → ghosts.left_since (book_disk book) (ghosts.moment disk) image) where
+  module _ (bytes : List ℕ) (lines : List Line) (listed : ListsOnce [] lines ids) (written now : Option (List ℕ)) (end : D) where
     pub is_whole : IsScript script_limit bytes lines → AreDone ghosts (standing_of book) lines written now end → IsWhole ghosts settings bytes disk end written now
     unfolding starts
     is_whole script done = record {
@@ -134,7 +123,7 @@ module _ {D : Type 0} {ghosts : Ghosts D} (disk : D) (settings : Settings) (ids 
       script = script;
       starts = starts lines listed;
       done = done;
-      moments = run_fronts done.last end done.disk done.moments counts_now;
+      moments = run_prefixes done.last end done.disk done.moments;
     }
 
     pub is_wrong_from : (k : ℕ) → IsWrongAt script_limit bytes lines k → AreDone ghosts (standing_of book) lines written now end → IsWrongFrom ghosts settings bytes disk end written now k
@@ -145,7 +134,7 @@ module _ {D : Type 0} {ghosts : Ghosts D} (disk : D) (settings : Settings) (ids 
       wrong = wrong;
       starts = starts lines listed;
       done = done;
-      moments = run_fronts done.last end done.disk done.moments counts_now;
+      moments = run_prefixes done.last end done.disk done.moments;
     }
 
     pub is_cut : AreGoodLines script_limit bytes lines → AreCutShort ghosts (standing_of book) lines written now end → IsCut ghosts settings bytes disk end written now
@@ -156,5 +145,5 @@ module _ {D : Type 0} {ghosts : Ghosts D} (disk : D) (settings : Settings) (ids 
       good = good;
       starts = starts lines listed;
       cut = cut;
-      moments = run_fronts cut.last end cut.disk cut.moments counts_now;
+      moments = run_prefixes cut.last end cut.disk cut.moments;
     }

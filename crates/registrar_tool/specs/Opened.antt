@@ -32,11 +32,11 @@ AreAskable ids (Ask time id number ∷ lines) = Contains ids id × (number < 2 ^
 abbrev pub HasIdContext : List Entry → PledgeId → ℕ → Type 0
 HasIdContext h id context = HasContext h (decide_row id) context
 
--- where a book stands
+-- where a book is
 abbrev pub standing_of : {D : Type 0} {ghosts : Ghosts D} → Book D ghosts → Standing D
 standing_of book = record { history = log_of book; durable = durable_of book; disk = book_disk book }
 
--- decisions may be made by the book: each identifier has its context, and settings stand
+-- decisions may be made by the book: each identifier has its context, and there are settings
 pub record IsReady {D : Type 0} {ghosts : Ghosts D} (book : Book D ghosts) (ids : List PledgeId) (contexts : List ℕ) : Type 0 where
   pub stands : StandsFor (state_of book) (log_of book)
   pub enrolled : AllZip (HasIdContext (log_of book)) ids contexts

@@ -10,11 +10,11 @@ use Rattle.journal_text.specs.declared.entry.Entry.{Entry}
 use Rattle.join_history.specs.Times.{last_time}
 use Rattle.join_history.specs.Legal.{IsLegal}
 use Rattle.join_history.specs.Opening.{IsOpened}
-use Rattle.journal_store.specs.Area.{formatted}
+use Rattle.journal_store.specs.Area.{empty_journal}
 use Rattle.registrar_book.specs.declared.answers.OpenFault.{OpenFault}
 use Rattle.registrar_book.specs.declared.answers.OpenFault.TheVariants as fault
-use Rattle.registrar_book.specs.Journals.{HasFront}
-use Rattle.registrar_book.specs.Opening.{IsLogOf, StartCause}
+use Rattle.registrar_book.specs.Journals.{HasPrefix}
+use Rattle.registrar_book.specs.Opening.{IsLogOf, BookCause}
 use Rattle.registrar_book.specs.Books.{entry_limit, HasOpening}
 use Rattle.tool_text.specs.declared.line.Line.{Line}
 use Rattle.tool_text.specs.declared.outcome.Outcome.{Outcome}
@@ -22,7 +22,7 @@ use Rattle.tool_text.specs.Outcome.{outcome_text}
 use Rattle.registrar_tool.specs.declared.status.Status.{Status}
 use Rattle.registrar_tool.specs.declared.status.Status.TheVariants.{Done, Usage, ReadFault, WriteFault, DiskFault, BadScript, NotAJournal, AlreadyThere, SameKey, NoMemory, JournalFull, ContextsFull}
 use Rattle.registrar_tool.specs.Words.{IsDecide, IsInit}
-use Rattle.registrar_tool.specs.Script.{IsRead, IsScript, IsWrongAt, AreGoodLines, ListsOnce}
+use Rattle.registrar_tool.specs.Script.{IsScriptRead, IsScript, IsWrongAt, AreGoodLines, ListsOnce}
 use Rattle.registrar_tool.specs.Told.{Standing, decide_row, IsTold, IsToldLine, IsSafe, AreMoments}
 
 -- the bytes that a script may have
@@ -56,16 +56,16 @@ pub record IsNotOpened {D : Type 0} (ghosts : Ghosts D) (disk now : D) (settings
   pub good : AreGoodLines script_limit bytes lines
   pub ids : List PledgeId
   pub listed : ListsOnce [] lines ids
-  pub cause : StartCause (ghosts.tells disk) (ghosts.seen disk) (ghosts.fault_count disk) (ghosts.fault_count now) settings (map decide_row ids) None why
+  pub cause : BookCause (ghosts.tells disk) (ghosts.seen disk) (ghosts.fault_count disk) (ghosts.fault_count now) settings (map decide_row ids) None why
   pub moments : IsTrue (ghosts.tells disk) → LeavesOnly ghosts.moment ghosts.left_since disk now
-      (λ image. ghosts.may_leave disk image ⊎ HasOpening (ghosts.may_leave disk) (ghosts.seen disk) settings (map decide_row ids) None image)
+      (λ image. ghosts.may_leave disk image ⊎ HasOpening (ghosts.seen disk) settings (map decide_row ids) None image)
 
 -- ---- lines
 
--- Beside what was left before, a crash at any moment leaves a front of this history, with what the disk had at least.
-abbrev pub LeavesFronts : {D : Type 0} → Ghosts D → D → List Entry → List Entry → D → Type 0
-LeavesFronts ghosts disk log history end = IsTrue (ghosts.tells disk)
-    → LeavesOnly ghosts.moment ghosts.left_since disk end (λ image. ghosts.may_leave disk image ⊎ HasFront (ghosts.may_leave disk) (length log) history image)
+-- Beside what was left before, a crash at any moment leaves a prefix of this history, with what the disk had at least.
+abbrev pub LeavesPrefixes : {D : Type 0} → Ghosts D → D → List Entry → List Entry → D → Type 0
+LeavesPrefixes ghosts disk log history end = IsTrue (ghosts.tells disk)
+    → LeavesOnly ghosts.moment ghosts.left_since disk end (λ image. ghosts.may_leave disk image ⊎ HasPrefix (length log) history image)
 
 -- The lines were done, and the outcomes written.
 pub record AreDone {D : Type 0} (ghosts : Ghosts D) (start : Standing D) (lines : List Line) (written now : Option (List ℕ)) (end : D) : Type 0 where
@@ -86,16 +86,16 @@ pub record AreCutShort {D : Type 0} (ghosts : Ghosts D) (start : Standing D) (li
   pub between : Standing D
   pub outcome : Outcome
   pub last : Standing D
-  pub front : List ℕ
+  pub prefix : List ℕ
   pub missing : List ℕ
   pub lines_are : lines ≡ before ++ line ∷ after
   pub told : IsTold ghosts start before outcomes between
   pub told_last : IsToldLine ghosts between line (outcome ∷ []) last
   pub moments : AreMoments ghosts start last
   pub disk : last.disk ≡ end
-  pub text : outcome_text outcome ≡ front ++ missing
+  pub text : outcome_text outcome ≡ prefix ++ missing
   pub some_missing : 0 < length missing
-  pub appended : Appends written now (text_of outcomes ++ front)
+  pub appended : Appends written now (text_of outcomes ++ prefix)
 
 -- the bytes are a script in the grammar, and each line was done
 pub record IsWhole {D : Type 0} (ghosts : Ghosts D) (settings : Settings) (bytes : List ℕ) (disk end : D) (written now : Option (List ℕ)) : Type 0 where
@@ -104,7 +104,7 @@ pub record IsWhole {D : Type 0} (ghosts : Ghosts D) (settings : Settings) (bytes
   pub script : IsScript script_limit bytes lines
   pub starts : IsStart ghosts disk settings lines start
   pub done : AreDone ghosts start lines written now end
-  pub moments : LeavesFronts ghosts disk starts.log done.last.history end
+  pub moments : LeavesPrefixes ghosts disk starts.log done.last.history end
 
 -- line k of the bytes is the first outside the grammar, and each line before it was done
 pub record IsWrongFrom {D : Type 0} (ghosts : Ghosts D) (settings : Settings) (bytes : List ℕ) (disk end : D) (written now : Option (List ℕ)) (k : ℕ) : Type 0 where
@@ -113,7 +113,7 @@ pub record IsWrongFrom {D : Type 0} (ghosts : Ghosts D) (settings : Settings) (b
   pub wrong : IsWrongAt script_limit bytes lines k
   pub starts : IsStart ghosts disk settings lines start
   pub done : AreDone ghosts start lines written now end
-  pub moments : LeavesFronts ghosts disk starts.log done.last.history end
+  pub moments : LeavesPrefixes ghosts disk starts.log done.last.history end
 
 -- the sink failed at the outcome of a line in the grammar
 pub record IsCut {D : Type 0} (ghosts : Ghosts D) (settings : Settings) (bytes : List ℕ) (disk end : D) (written now : Option (List ℕ)) : Type 0 where
@@ -122,7 +122,7 @@ pub record IsCut {D : Type 0} (ghosts : Ghosts D) (settings : Settings) (bytes :
   pub good : AreGoodLines script_limit bytes lines
   pub starts : IsStart ghosts disk settings lines start
   pub cut : AreCutShort ghosts start lines written now end
-  pub moments : LeavesFronts ghosts disk starts.log cut.last.history end
+  pub moments : LeavesPrefixes ghosts disk starts.log cut.last.history end
 
 -- ---- runs
 
@@ -131,7 +131,7 @@ pub record IsRun (words : List (List ℕ)) (left left_now : Option (List ℕ)) (
   pub settings : Settings
   pub bytes : List ℕ
   pub words_are : IsDecide words settings
-  pub read : IsRead script_limit left left_now bytes
+  pub read : IsScriptRead script_limit left left_now bytes
   pub so : P settings bytes
 
 -- an area isn't empty
@@ -142,8 +142,8 @@ IsSomething areas = (areas.left ≢ []) ⊎ (areas.right ≢ [])
 pub record AreFormatted {D : Type 0} (ghosts : Ghosts D) (disk end : D) : Type 0 where
   pub left_was : IsTrue (ghosts.tells disk) → (ghosts.seen disk).left ≡ []
   pub right_was : IsTrue (ghosts.tells disk) → (ghosts.seen disk).right ≡ []
-  pub reads : IsTrue (ghosts.tells disk) → ghosts.seen end ≡ formatted
-  pub durable : IsTrue (ghosts.tells disk) → Only formatted (ghosts.may_leave end)
+  pub reads : IsTrue (ghosts.tells disk) → ghosts.seen end ≡ empty_journal
+  pub durable : IsTrue (ghosts.tells disk) → Only empty_journal (ghosts.may_leave end)
 
 -- the words are `init`, and the journal was made
 abbrev pub IsFormatted : {D : Type 0} → Ghosts D → List (List ℕ) → D → D → Type 0

@@ -9,7 +9,7 @@ use Rattle.tool_text.specs.Line.{IsLine}
 use Rattle.tool_text.specs.Lines.{lines_of}
 
 -- the bytes were read from the source: all that was left, or one byte more than the limit
-pub record IsRead (limit : ℕ) (before after : Option (List ℕ)) (bytes : List ℕ) : Type 0 where
+pub record IsScriptRead (limit : ℕ) (before after : Option (List ℕ)) (bytes : List ℕ) : Type 0 where
   pub taken : Takes before after bytes
   pub most : length bytes ≤ limit + 1
   pub whole : length bytes ≤ limit → IsAtEnd after

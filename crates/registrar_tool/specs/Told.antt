@@ -1,4 +1,4 @@
--- A script and its outcomes, told one line at a time over the history and the disk so far.
+-- A script and its outcomes, one line at a time, over the history and the disk so far.
 use Rattle.std.specs.Prelude.{◌≡◌, ◌≤◌, ◌<◌, ◌⊎◌, ⊤, ℕ, IsTrue, List, [], ◌∷◌, ◌++◌, Contains, replicate, length}
 use Rattle.edge_traits.specs.declared.names.PledgeId.{PledgeId}
 use Rattle.edge_traits.specs.declared.disk.Disk.{Ghosts}
@@ -15,7 +15,7 @@ use Rattle.join_history.specs.Legal.{IsLegal}
 use Rattle.registrar_state.specs.declared.last.Last.{Last}
 use Rattle.registrar_state.specs.declared.last.Last.TheVariants as last
 use Rattle.registrar_state.specs.Last.{IsLastAnswer}
-use Rattle.registrar_book.specs.Journals.{HasFront}
+use Rattle.registrar_book.specs.Journals.{HasPrefix}
 use Rattle.registrar_book.specs.Books.{entry_limit}
 use Rattle.tool_text.specs.declared.line.Line.{Line}
 use Rattle.tool_text.specs.declared.line.Line.TheVariants.{Skipped, Ask}
@@ -35,7 +35,7 @@ abbrev pub granted_of : Last → Outcome
 granted_of (last.Grant address until) = outcome.Grant address until
 granted_of (last.Refuse code) = outcome.Refuse code
 
--- what is printed where the last answer stands
+-- what is printed where the last answer is repeated
 abbrev pub again_of : Last → Outcome
 again_of (last.Grant address until) = outcome.AgainGrant address until
 again_of (last.Refuse code) = outcome.AgainRefuse code
@@ -49,56 +49,56 @@ IsOutcome h c Again o = (answer : Last) × IsLastAnswer h c answer × (o ≡ aga
 IsOutcome h c (Quiet why) o = o ≡ outcome.Quiet why
 
 -- the entries that are added
-abbrev pub added : Due → List Entry
-added (Add e) = e ∷ []
-added Again = []
-added (Quiet why) = []
+abbrev pub added_entries : Due → List Entry
+added_entries (Add e) = e ∷ []
+added_entries Again = []
+added_entries (Quiet why) = []
 
 -- where an entry is due there is room for it
 abbrev pub HasPlace : List Entry → Due → Type 0
 HasPlace g (Add e) = length g < entry_limit
 HasPlace g _ = ⊤
 
--- The outcome of a request behind the history g, and the entries that it adds. Where the disk failed an entry that is due
+-- The outcome of a request after the history g, and the entries that it adds. Where the disk failed an entry that is due
 -- was added, or nothing was decided.
 abbrev pub IsToldRequest : List Entry → ℕ → ℕ → ℕ → Outcome → List Entry → Type 0
 IsToldRequest g time c n (outcome.Unsure faults) more = (more ≡ []) ⊎ ((e : Entry) × IsDue g time c n Join (Add e) × (length g < entry_limit) × (more ≡ e ∷ []))
 IsToldRequest g time c n (outcome.Full entries) more = (e : Entry) × IsDue g time c n Join (Add e) × (length g ≡ entry_limit) × (entries ≡ entry_limit) × (more ≡ [])
-IsToldRequest g time c n o more = (due : Due) × IsDue g time c n Join due × HasPlace g due × IsOutcome g c due o × (more ≡ added due)
+IsToldRequest g time c n o more = (due : Due) × IsDue g time c n Join due × HasPlace g due × IsOutcome g c due o × (more ≡ added_entries due)
 
 -- ---- over a disk
 
--- where a run stands: its history, how many of its entries are durable, and its disk
+-- where a run is: its history, how many of its entries are durable, and its disk
 pub record Standing (D : Type 0) : Type 0 where
   pub history : List Entry
   pub durable : ℕ
   pub disk : D
 
--- Each image that a crash may leave has so many entries of the history, or more.
+-- Each image that a crash may leave has at least the durable entries of the history.
 abbrev pub IsSafe : {D : Type 0} → Ghosts D → Standing D → Type 0
 IsSafe ghosts point = IsTrue (ghosts.tells point.disk)
-    → (image : Areas) → ghosts.may_leave point.disk image → HasFront (ghosts.may_leave point.disk) point.durable point.history image
+    → (image : Areas) → ghosts.may_leave point.disk image → HasPrefix point.durable point.history image
 
 -- What became durable. Where the disk failed its count of faults rose to this; a batch before is pending, and nothing was
--- decided, or the entry is pending behind all that was there. At every other outcome the whole history is durable.
-abbrev pub IsSettled : {D : Type 0} → Ghosts D → Standing D → Outcome → List Entry → Standing D → Type 0
-IsSettled ghosts old (outcome.Unsure faults) [] new = Rose (ghosts.fault_count old.disk) faults × (faults ≡ ghosts.fault_count new.disk)
+-- decided, or the entry is pending after all that was there. At every other outcome the whole history is durable.
+abbrev pub HasDurability : {D : Type 0} → Ghosts D → Standing D → Outcome → List Entry → Standing D → Type 0
+HasDurability ghosts old (outcome.Unsure faults) [] new = Rose (ghosts.fault_count old.disk) faults × (faults ≡ ghosts.fault_count new.disk)
     × (old.durable < length old.history) × (new.durable ≡ old.durable)
-IsSettled ghosts old (outcome.Unsure faults) (e ∷ more) new = Rose (ghosts.fault_count old.disk) faults × (faults ≡ ghosts.fault_count new.disk)
+HasDurability ghosts old (outcome.Unsure faults) (e ∷ more) new = Rose (ghosts.fault_count old.disk) faults × (faults ≡ ghosts.fault_count new.disk)
     × (new.durable ≡ length old.history)
-IsSettled ghosts old o more new = new.durable ≡ length new.history
+HasDurability ghosts old o more new = new.durable ≡ length new.history
 
--- a request was answered: what was told, and what a crash at any moment of it leaves
+-- a request was answered: what was reported, and what a crash at any moment of it leaves
 pub record IsAnswered {D : Type 0} (ghosts : Ghosts D) (old : Standing D) (time c n : ℕ) (o : Outcome) (new : Standing D) : Type 0 where
   pub more : List Entry
   pub told : IsToldRequest old.history time c n o more
   pub history : new.history ≡ old.history ++ more
   pub legal : IsLegal new.history
-  pub settled : IsSettled ghosts old o more new
+  pub settled : HasDurability ghosts old o more new
   pub counted : ghosts.fault_count old.disk ≤ ghosts.fault_count new.disk
   pub safe : IsSafe ghosts new
   pub any_moment : IsTrue (ghosts.tells old.disk)
-      → LeavesOnly ghosts.moment ghosts.left_since old.disk new.disk (HasFront (ghosts.may_leave old.disk) old.durable new.history)
+      → LeavesOnly ghosts.moment ghosts.left_since old.disk new.disk (HasPrefix old.durable new.history)
   pub tells : ghosts.tells new.disk ≡ ghosts.tells old.disk
 
 -- What a line does to a run, and its outcomes: none at a skipped line, and one at a request.
@@ -113,7 +113,7 @@ IsTold {D} ghosts old [] outcomes new = (outcomes ≡ []) × (new ≡ old)
 IsTold {D} ghosts old (line ∷ lines) outcomes new = (between : Standing D) × (first rest : List Outcome)
     × IsToldLine ghosts old line first between × IsTold ghosts between lines rest new × (outcomes ≡ first ++ rest)
 
--- The history grew by what may follow, nothing that was durable was lost, and a crash at any moment between leaves a front of
+-- The history grew by what may follow, nothing that was durable was lost, and a crash at any moment between leaves a prefix of
 -- the history, with all that was durable.
 pub record AreMoments {D : Type 0} (ghosts : Ghosts D) (old new : Standing D) : Type 0 where
   pub more : List Entry
@@ -122,5 +122,5 @@ pub record AreMoments {D : Type 0} (ghosts : Ghosts D) (old new : Standing D) : 
   pub least : old.durable ≤ new.durable
   pub most : new.durable ≤ length new.history
   pub any_moment : IsTrue (ghosts.tells old.disk)
-      → LeavesOnly ghosts.moment ghosts.left_since old.disk new.disk (HasFront (ghosts.may_leave old.disk) old.durable new.history)
+      → LeavesOnly ghosts.moment ghosts.left_since old.disk new.disk (HasPrefix old.durable new.history)
   pub tells : ghosts.tells new.disk ≡ ghosts.tells old.disk

@@ -39,7 +39,7 @@ fn granted_outcome(last: Last) -> Outcome
     }
 }
 
-/// The outcome where the last answer stands.
+/// The outcome where the last answer is repeated.
 fn again_outcome(last: Last) -> Outcome
     ensures { result ≡ again_of last }
 {

@@ -1,5 +1,5 @@
 // The top calls: what the program's words ask for, over a source, a sink and a disk of any kind.
-// It promises the program that all that is written are the outcomes of one legal history, told over the script,
+// It promises the program that all that is written are the outcomes of the script over one legal history,
 // and that each status has its cause. Definitions are in specs/: Words, Script, Told and Run.
 #![tactic(auto)]
 

@@ -4,7 +4,7 @@ ghost use Rattle.edge_traits.specs.Faults.{Rose};
 ghost use Rattle.tool_text.specs.declared.line.Line.{Line};
 ghost use Rattle.tool_text.specs.Line.{IsLine};
 ghost use Rattle.registrar_tool.specs.Run.{script_limit};
-ghost use Rattle.registrar_tool.specs.Script.{IsRead, IsScript, IsWrongAt, ask_count};
+ghost use Rattle.registrar_tool.specs.Script.{IsScriptRead, IsScript, IsWrongAt, ask_count};
 
 use edge_traits::Source;
 use std::alloc::{AllocError, Global};
@@ -36,7 +36,7 @@ impl From<AllocError> for ReadError {
 
 /// Reads the source to its end, or to one byte past the limit.
 pub(crate) fn read_script<T: Source>(alloc: Global, source: &mut T) -> Result<Vec<u8>, ReadError>
-    ensures read { IfOk result (λ bytes. IsRead script_limit (T.left source.old) (T.left source.new) bytes.items) }
+    ensures read { IfOk result (λ bytes. IsScriptRead script_limit (T.left source.old) (T.left source.new) bytes.items) }
     ensures fault { IsErrOf result ReadError.Fault → Rose (T.fault_count source.old) (T.fault_count source.new) }
 {
     let mut bytes = Vec::new(alloc);
@@ -54,7 +54,7 @@ pub(crate) fn read_script<T: Source>(alloc: Global, source: &mut T) -> Result<Ve
     Ok(bytes)
 }
 
-/// What a line says, unless it is outside the grammar or reaches past the limit: nothing is behind it then, and `total`
+/// What a line says, unless it is outside the grammar or reaches past the limit: nothing comes after it then, and `total`
 /// bytes were read.
 fn read_within(line: &[u8], after: &[u8], total: usize) -> Option<Line>
     ensures found { IfSome result (IsLine line.now) }

@@ -12,7 +12,7 @@ type Failing<'a> = (&'a [u64], &'a [u64]);
 
 const SOUND: Failing<'static> = (&[], &[]);
 
-/// An empty journal: the header, with generation 1 and the summary of no history behind its length, and a closed gate.
+/// An empty journal: the header, with generation 1 and the summary of no history after its length, and a closed gate.
 const EMPTY: [u8; 43] =
     *b"\x01\x36\x54\x4a\x52\x43\x2d\x31\x00\x00\x00\x00\x00\x00\x00\x01\x00\x00\x00\x16\
     \x00\x00\x00\x00\x00\x00\x00\x00\x00\x00\x00\x00\x00\x00\x00\x00\x00\x00\x00\x00\x00\x00\
@@ -97,14 +97,14 @@ fn a_disk_without_a_journal_is_told(rt: HostRuntime) -> Result<(), Fail> {
 }
 
 /// Each run: its words, its script and what it writes.
-const RUNS: [(&str, &str, &str); 8] = [
+const RUNS: [(&str, &str, &str); 9] = [
     (
         "decide 1 2 24",
         "ask 100 00000000000000a1 0\n",
         "grant 0001 86500\n",
     ),
     ("decide 1 2 24", "", ""),
-    // An address is held for 3600 seconds behind its lease's end.
+    // An address is held for 3600 seconds after its lease's end.
     (
         "decide 1 1 1",
         "ask 0 00000000000000a1 0\nask 10 00000000000000a2 0\nask 7199 00000000000000a2 1\nask 7200 00000000000000a2 2\n",
@@ -121,6 +121,12 @@ const RUNS: [(&str, &str, &str); 8] = [
         "decide 1 2 1",
         "ask 0 00000000000000a1 0\nask 0 00000000000000a2 0\nask 3599 00000000000000a2 1\nask 7198 00000000000000a2 2\nask 7200 00000000000000a2 3\n",
         "grant 0001 3600\ngrant 0002 3600\ngrant 0002 7199\ngrant 0002 10798\ngrant 0002 10800\n",
+    ),
+    // At 7200 each lease and its grace are over. Each gets the least address that nobody else holds, whichever it had.
+    (
+        "decide 1 3 1",
+        "ask 0 00000000000000a1 0\nask 0 00000000000000a2 0\nask 0 00000000000000a3 0\nask 7200 00000000000000a4 0\nask 7200 00000000000000a3 1\nask 7200 00000000000000a2 1\n",
+        "grant 0001 3600\ngrant 0002 3600\ngrant 0003 3600\ngrant 0001 10800\ngrant 0002 10800\ngrant 0003 10800\n",
     ),
     // The window of 32 numbers.
     (
@@ -224,7 +230,7 @@ fn faults_of_the_outside_are_told(rt: HostRuntime) -> Result<(), Fail> {
     Ok(())
 }
 
-/// A comment of so many bytes, behind one line that is decided.
+/// A comment of this many bytes, after one line that is decided.
 fn long_script(alloc: Global, length: usize) -> Result<Vec<u8>, AllocError> {
     let mut script = Vec::with_capacity(alloc, length)?;
     script.extend_from_slice(b"ask 0 00000000000000a1 0\n#")?;
@@ -378,7 +384,7 @@ fn a_key_of_another_pledge_is_told(rt: HostRuntime) -> Result<(), Fail> {
 /// The Settings of `decide 1 2 24` at time 0.
 const SETTINGS: [u8; 17] = *b"\x01\x00\x00\x00\x00\x00\x00\x00\x00\x00\x01\x00\x02\x00\x18\x00\x00";
 
-/// Adds a batch of so many of these Settings.
+/// Adds a batch of `count` of these Settings.
 fn push_batch(area: &mut Vec<u8>, count: u8) -> Result<(), AllocError> {
     area.push(1)?;
     area.extend_from_slice(&(17 * u32::from(count)).to_be_bytes())?;
@@ -388,7 +394,7 @@ fn push_batch(area: &mut Vec<u8>, count: u8) -> Result<(), AllocError> {
     Ok(())
 }
 
-/// A left area whose log has 262,080 of these Settings and so many more.
+/// A left area whose log has 262,080 of these Settings and `more` others.
 fn long_log(alloc: Global, more: u8) -> Result<Vec<u8>, AllocError> {
     let mut area = Vec::with_capacity(alloc, 5_000_000)?;
     area.extend_from_slice(&EMPTY[..42])?;
@@ -449,7 +455,7 @@ fn statuses_have_their_numbers_and_texts(rt: HostRuntime) -> Result<(), Fail> {
     Ok(())
 }
 
-/// One request of each of so many pledges.
+/// One request of each of `count` pledges.
 fn many_pledges(alloc: Global, count: u32) -> Result<Vec<u8>, Fail> {
     let mut script = Vec::new(alloc);
     for id in 0..count {

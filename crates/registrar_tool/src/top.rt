@@ -1,19 +1,19 @@
 //! The top call.
 ghost use Rattle.std.specs.Prelude.{◌≡◌, ◌≢◌, ◌⊎◌, ◌↔◌, ◌≤◌, [], ℕ, IsTrue, OnOk, OnErr, List, length, map, string_bytes, codes};
-ghost use Rattle.edge_traits.specs.Disk.{LeavesOnly, LeavesNoMore};
+ghost use Rattle.edge_traits.specs.Runs.{IsSameDisk, CrashLeaves, IsUntouched};
+ghost use Rattle.edge_traits.specs.declared.names.Area.TheVariants.{Left};
 ghost use Rattle.edge_traits.specs.Faults.{Rose, HasCause};
-ghost use Rattle.edge_traits.specs.Sink.{Appends};
+ghost use Rattle.edge_traits.specs.Sink.{Appends, AppendsPrefix};
 ghost use Rattle.journal_text.specs.declared.settings.Settings.{Settings};
 ghost use Rattle.join_history.specs.Legal.{IsInRange};
 ghost use Rattle.journal_store.specs.Area.{IsOnTheWay};
 ghost use Rattle.journal_store.specs.Fault.{IsThere};
-ghost use Rattle.journal_store.specs.Store.{EachLeft};
+ghost use Rattle.journal_store.specs.Store.{EachIn};
 ghost use Rattle.registrar_book.specs.declared.answers.OpenFault.{OpenFault};
 ghost use Rattle.registrar_book.specs.declared.answers.OpenFault.TheVariants as fault;
-ghost use Rattle.tool_text.specs.Writing.{AppendsFront};
 ghost use Rattle.registrar_tool.specs.declared.status.Status.TheVariants.{Done, Usage, ReadFault, WriteFault, DiskFault, BadScript, AlreadyThere, NoMemory};
 ghost use Rattle.registrar_tool.specs.Words.{IsDecide, IsInit};
-ghost use Rattle.registrar_tool.specs.Script.{IsRead};
+ghost use Rattle.registrar_tool.specs.Script.{IsScriptRead};
 ghost use Rattle.registrar_tool.specs.Run.{IsRun, IsWhole, IsWrongFrom, IsCut, IsNotOpened, IsFormatted, IsSomething, AreFormatted, AreDone, AreCutShort, IsBeforeLines, IsBeforeDisk, IsInitStatus, IsDecideStatus, IsScriptStatus, LeavesDisk, open_status, script_limit};
 ghost use Rattle.registrar_tool.specs.Opened.{IsReady, AreAskable, standing_of};
 ghost use Rattle.registrar_book.specs.Books.{log_of, durable_of, book_disk};
@@ -24,13 +24,13 @@ use crate::ids::Ids;
 use crate::opening::{list_ids, rows_of};
 use crate::script::{ReadError, read_lines, read_script};
 use crate::words::{Command, read_words};
-use edge_traits::{Disk, Failed, Sink, Source};
+use edge_traits::{Disk, Failed, Sink, Source, write_all};
 use journal_store::{Journal, StoreFault};
 use journal_text::Settings;
 use registrar_book::{Book, OpenFault};
 use registrar_state::Opening;
 use std::alloc::Global;
-use tool_text::{Line, write_all};
+use tool_text::Line;
 
 /// Does what the words ask for, and gives the disk back. `init` makes an empty journal and writes `formatted`.
 /// `decide first count hours` opens the journal with the identifiers of the script's good lines and these settings, and decides these
@@ -56,7 +56,7 @@ pub fn run<S: Source, T: Source, K: Sink, D: Disk>(
 
     // The sink failed in this call; what was written ends within the text of the last line that was done.
     ensures write_fault { (f : ℕ) → result.1 ≡ WriteFault f
-        → (IsFormatted D.Disk (map string_bytes words.now) disk result.0 × AppendsFront (K.written out.old) (K.written out.new) (codes "formatted\n"))
+        → (IsFormatted D.Disk (map string_bytes words.now) disk result.0 × AppendsPrefix (K.written out.old) (K.written out.new) (codes "formatted\n"))
         ⊎ IsRun (map string_bytes words.now) (T.left script.old) (T.left script.new)
         (λ settings bytes. IsCut D.Disk settings bytes disk result.0 (K.written out.old) (K.written out.new)) }
     ensures write_cause { (f : ℕ) → result.1 ≡ WriteFault f
@@ -92,24 +92,14 @@ pub fn run<S: Source, T: Source, K: Sink, D: Disk>(
 
     // The disk as it was, and as it reads.
     ensures no_call { IsBeforeDisk result.1 → result.0 ≡ disk }
-    ensures seen { IsTrue (D.tells disk) → LeavesDisk result.1 → D.seen result.0 ≡ D.seen disk }
-    ensures crash { IsTrue (D.tells disk) → LeavesDisk result.1 → LeavesNoMore (D.may_leave disk) (D.may_leave result.0) }
-
-    ensures still { IsTrue (D.tells disk) → LeavesDisk result.1 → LeavesOnly D.moment D.left_since disk result.0 (D.may_leave disk) }
+    ensures untouched { LeavesDisk result.1 → IsUntouched D.Disk disk result.0 }
 
     // What `init` leaves where there is something, and what a crash at any moment leaves where there is nothing.
-    ensures kept { IsInit (map string_bytes words.now) → IsTrue (D.tells disk) → IsSomething (D.seen disk)
-        → D.seen result.0 ≡ D.seen disk }
-    ensures kept_by_crash { IsInit (map string_bytes words.now) → IsTrue (D.tells disk) → IsSomething (D.seen disk)
-        → LeavesNoMore (D.may_leave disk) (D.may_leave result.0) }
-    ensures kept_at_any_moment { IsInit (map string_bytes words.now) → IsTrue (D.tells disk) → IsSomething (D.seen disk)
-        → LeavesOnly D.moment D.left_since disk result.0 (D.may_leave disk) }
-    ensures order { IsInit (map string_bytes words.now) → IsTrue (D.tells disk)
-        → EachLeft (D.may_leave disk) (λ left. left ≡ [])
-        → LeavesOnly D.moment D.left_since disk result.0 IsOnTheWay }
+    ensures kept { IsInit (map string_bytes words.now) → IsSomething (D.seen disk) → IsUntouched D.Disk disk result.0 }
+    ensures order { IsInit (map string_bytes words.now) → EachIn Left (D.may_leave disk) (λ left. left ≡ [])
+        → CrashLeaves D.Disk disk result.0 IsOnTheWay }
     ensures inventory { _inventory.new ≡ _inventory.old }
-    ensures tells { D.tells result.0 ≡ D.tells disk }
-    ensures counted { D.fault_count disk ≤ D.fault_count result.0 }
+    ensures same { IsSameDisk D.Disk disk result.0 }
 {
     match read_words(words) {
         Some(Command::Init) => init(out, disk),
@@ -122,7 +112,7 @@ pub fn run<S: Source, T: Source, K: Sink, D: Disk>(
 fn init<K: Sink, D: Disk>(out: &mut K, disk: D) -> (D, Status)
     ensures formatted { (result.1 ≡ Done) ⊎ ((f : ℕ) × (result.1 ≡ WriteFault f)) → AreFormatted D.Disk disk result.0 }
     ensures done { result.1 ≡ Done → Appends (K.written out.old) (K.written out.new) (codes "formatted\n") }
-    ensures write_fault { (f : ℕ) → result.1 ≡ WriteFault f → AppendsFront (K.written out.old) (K.written out.new) (codes "formatted\n") }
+    ensures write_fault { (f : ℕ) → result.1 ≡ WriteFault f → AppendsPrefix (K.written out.old) (K.written out.new) (codes "formatted\n") }
     ensures write_cause { (f : ℕ) → result.1 ≡ WriteFault f
         → Rose (K.fault_count out.old) f × (f ≡ K.fault_count out.new) }
     ensures disk_cause { (f : ℕ) → result.1 ≡ DiskFault f
@@ -130,17 +120,10 @@ fn init<K: Sink, D: Disk>(out: &mut K, disk: D) -> (D, Status)
     ensures there { (n : ℕ) → result.1 ≡ AlreadyThere n → IsTrue (D.tells disk) → IsThere (D.seen disk) n }
     ensures statuses { IsInitStatus result.1 }
     ensures nothing { IsBeforeLines result.1 → out.new ≡ out.old }
-    ensures seen { IsTrue (D.tells disk) → LeavesDisk result.1 → D.seen result.0 ≡ D.seen disk }
-    ensures crash { IsTrue (D.tells disk) → LeavesDisk result.1 → LeavesNoMore (D.may_leave disk) (D.may_leave result.0) }
-    ensures still { IsTrue (D.tells disk) → LeavesDisk result.1 → LeavesOnly D.moment D.left_since disk result.0 (D.may_leave disk) }
-    ensures kept { IsTrue (D.tells disk) → IsSomething (D.seen disk) → D.seen result.0 ≡ D.seen disk }
-    ensures kept_by_crash { IsTrue (D.tells disk) → IsSomething (D.seen disk) → LeavesNoMore (D.may_leave disk) (D.may_leave result.0) }
-    ensures kept_at_any_moment { IsTrue (D.tells disk) → IsSomething (D.seen disk)
-        → LeavesOnly D.moment D.left_since disk result.0 (D.may_leave disk) }
-    ensures order { IsTrue (D.tells disk) → EachLeft (D.may_leave disk) (λ left. left ≡ [])
-        → LeavesOnly D.moment D.left_since disk result.0 IsOnTheWay }
-    ensures tells { D.tells result.0 ≡ D.tells disk }
-    ensures counted { D.fault_count disk ≤ D.fault_count result.0 }
+    ensures untouched { LeavesDisk result.1 → IsUntouched D.Disk disk result.0 }
+    ensures kept { IsSomething (D.seen disk) → IsUntouched D.Disk disk result.0 }
+    ensures order { EachIn Left (D.may_leave disk) (λ left. left ≡ []) → CrashLeaves D.Disk disk result.0 IsOnTheWay }
+    ensures same { IsSameDisk D.Disk disk result.0 }
 {
     let mut disk = disk;
     let status = match Journal::format(&mut disk) {
@@ -165,13 +148,13 @@ fn decide<T: Source, K: Sink, D: Disk>(
     disk: D,
 ) -> (D, Status)
     requires { IsInRange settings }
-    ensures done { result.1 ≡ Done → (bytes : List ℕ) × IsRead script_limit (T.left script.old) (T.left script.new) bytes
+    ensures done { result.1 ≡ Done → (bytes : List ℕ) × IsScriptRead script_limit (T.left script.old) (T.left script.new) bytes
         × IsWhole D.Disk settings bytes disk result.0 (K.written out.old) (K.written out.new) }
     ensures bad_script { (k : ℕ) → result.1 ≡ BadScript k
-        → (bytes : List ℕ) × IsRead script_limit (T.left script.old) (T.left script.new) bytes
+        → (bytes : List ℕ) × IsScriptRead script_limit (T.left script.old) (T.left script.new) bytes
         × IsWrongFrom D.Disk settings bytes disk result.0 (K.written out.old) (K.written out.new) k }
     ensures write_fault { (f : ℕ) → result.1 ≡ WriteFault f
-        → (bytes : List ℕ) × IsRead script_limit (T.left script.old) (T.left script.new) bytes
+        → (bytes : List ℕ) × IsScriptRead script_limit (T.left script.old) (T.left script.new) bytes
         × IsCut D.Disk settings bytes disk result.0 (K.written out.old) (K.written out.new) }
     ensures write_cause { (f : ℕ) → result.1 ≡ WriteFault f
         → Rose (K.fault_count out.old) f × (f ≡ K.fault_count out.new) }
@@ -180,16 +163,13 @@ fn decide<T: Source, K: Sink, D: Disk>(
     ensures disk_cause { (f : ℕ) → result.1 ≡ DiskFault f
         → Rose (D.fault_count disk) f × (f ≡ D.fault_count result.0) }
     ensures not_opened { (why : OpenFault) → result.1 ≡ open_status why → why ≢ fault.NoMemory
-        → (bytes : List ℕ) × IsRead script_limit (T.left script.old) (T.left script.new) bytes
+        → (bytes : List ℕ) × IsScriptRead script_limit (T.left script.old) (T.left script.new) bytes
         × IsNotOpened D.Disk disk result.0 settings bytes why }
     ensures statuses { IsDecideStatus result.1 }
     ensures nothing { IsBeforeLines result.1 → out.new ≡ out.old }
     ensures no_call { IsBeforeDisk result.1 → result.0 ≡ disk }
-    ensures seen { IsTrue (D.tells disk) → LeavesDisk result.1 → D.seen result.0 ≡ D.seen disk }
-    ensures crash { IsTrue (D.tells disk) → LeavesDisk result.1 → LeavesNoMore (D.may_leave disk) (D.may_leave result.0) }
-    ensures still { IsTrue (D.tells disk) → LeavesDisk result.1 → LeavesOnly D.moment D.left_since disk result.0 (D.may_leave disk) }
-    ensures tells { D.tells result.0 ≡ D.tells disk }
-    ensures counted { D.fault_count disk ≤ D.fault_count result.0 }
+    ensures untouched { LeavesDisk result.1 → IsUntouched D.Disk disk result.0 }
+    ensures same { IsSameDisk D.Disk disk result.0 }
 {
     match read_script(alloc, script) {
         Ok(bytes) => decide_script(alloc, settings, &bytes, out, disk),
@@ -221,11 +201,8 @@ fn decide_script<K: Sink, D: Disk>(
         → IsNotOpened D.Disk disk result.0 settings bytes.now why }
     ensures statuses { IsScriptStatus result.1 }
     ensures nothing { IsBeforeLines result.1 → out.new ≡ out.old }
-    ensures seen { IsTrue (D.tells disk) → LeavesDisk result.1 → D.seen result.0 ≡ D.seen disk }
-    ensures crash { IsTrue (D.tells disk) → LeavesDisk result.1 → LeavesNoMore (D.may_leave disk) (D.may_leave result.0) }
-    ensures still { IsTrue (D.tells disk) → LeavesDisk result.1 → LeavesOnly D.moment D.left_since disk result.0 (D.may_leave disk) }
-    ensures tells { D.tells result.0 ≡ D.tells disk }
-    ensures counted { D.fault_count disk ≤ D.fault_count result.0 }
+    ensures untouched { LeavesDisk result.1 → IsUntouched D.Disk disk result.0 }
+    ensures same { IsSameDisk D.Disk disk result.0 }
 {
     let Ok((lines, wrong)) = read_lines(alloc, bytes) else {
         return (disk, Status::NoMemory);

@@ -12,7 +12,7 @@ use Rattle.tool_text.specs.Lines.{Lacks}
 use Rattle.tool_text.proofs.Fields.{Lacks-decimal, Lacks-id}
 use Rattle.tool_text.proofs.Splits.{one_cut, lacks_none}
 
--- the fields behind the word, cut at their spaces
+-- the fields after the word, cut at their spaces
 pub record AreAskFields (fields : List ℕ) (time : ℕ) (id : PledgeId) (number : ℕ) : Type 0 where
   pub time_fits : time < 2 ^ 40
   pub number_fits : number < 2 ^ 40
@@ -20,7 +20,7 @@ pub record AreAskFields (fields : List ℕ) (time : ℕ) (id : PledgeId) (number
   pub id_is : SpellsId digits id
   pub parts : fields ≡ decimal time ++ 32 ∷ (digits ++ 32 ∷ decimal number)
 
--- texts behind one another, with the brackets to the right
+-- texts after one another, with the brackets to the right
 regrouped : (word time digits number : List ℕ)
     → word ++ time ++ codes " " ++ digits ++ codes " " ++ number ≡ word ++ (time ++ 32 ∷ (digits ++ 32 ∷ number))
 regrouped word time digits number =

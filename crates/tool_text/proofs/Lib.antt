@@ -1,4 +1,3 @@
 pub mod Splits
 pub mod Fields
 pub mod AskLemmas
-pub mod WritingLemmas

@@ -8,7 +8,7 @@ use Rattle.tool_text.specs.Lines.{lines_of, Lacks}
 eqb-other : (a b : ℕ) → a ≢ b → eqb a b ≡ false
 eqb-other a b other = grind (arith, nat_tests)
 
--- a line and its LF in front of the other lines
+-- a line and its LF before the other lines
 pub lines_of-append : (line rest : List ℕ) → Lacks line 10 → lines_of (line ++ 10 ∷ rest) ≡ line ∷ lines_of rest
 lines_of-append [] rest lacks = refl
 lines_of-append (b ∷ line) rest lacks =
@@ -28,12 +28,12 @@ lines_of-alone (b ∷ c ∷ line) lacks some =
     rw (other, ih) refl
 
 -- a list that has a byte doesn't lack it
-pub lacks_none : (bytes front rest : List ℕ) (byte : ℕ) → Lacks bytes byte → bytes ≡ front ++ byte ∷ rest → ⊥
+pub lacks_none : (bytes prefix rest : List ℕ) (byte : ℕ) → Lacks bytes byte → bytes ≡ prefix ++ byte ∷ rest → ⊥
 lacks_none [] [] rest byte lacks e = cc e
-lacks_none [] (b ∷ front) rest byte lacks e = cc e
+lacks_none [] (b ∷ prefix) rest byte lacks e = cc e
 lacks_none (a ∷ bytes) [] rest byte lacks e = All-head (λ x. x ≢ byte) a bytes lacks (cc e)
-lacks_none (a ∷ bytes) (b ∷ front) rest byte lacks e =
-    lacks_none bytes front rest byte (All-tail (λ x. x ≢ byte) a bytes lacks) (cc e)
+lacks_none (a ∷ bytes) (b ∷ prefix) rest byte lacks e =
+    lacks_none bytes prefix rest byte (All-tail (λ x. x ≢ byte) a bytes lacks) (cc e)
 
 -- there is one cut at the first of these bytes
 pub one_cut : (a b x y : List ℕ) (byte : ℕ) → Lacks a byte → Lacks b byte → a ++ byte ∷ x ≡ b ++ byte ∷ y

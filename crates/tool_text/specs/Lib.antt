@@ -1,4 +1,3 @@
 pub mod Lines
 pub mod Line
 pub mod Outcome
-pub mod Writing

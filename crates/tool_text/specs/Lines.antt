@@ -11,7 +11,7 @@ lines_of (b ∷ bytes) = if b == 10 then [] ∷ lines_of bytes else onto_first b
 abbrev pub Lacks : List ℕ → ℕ → Type 0
 Lacks bytes byte = All (λ b. b ≢ byte) bytes
 
--- the line, and behind its LF the rest; or the line is all, and has no LF
+-- the line, and after its LF the rest; or the line is all, and has no LF
 pub record IsFirstLine (bytes line rest : List ℕ) : Type 0 where
   pub no_lf : Lacks line 10
   pub parts : (bytes ≡ line ++ 10 ∷ rest) ⊎ ((bytes ≡ line) × (rest ≡ []))

@@ -4,7 +4,7 @@ ghost use Rattle.tool_text.specs.Lines.{lines_of, IsFirstLine};
 
 use crate::split::split_once;
 
-/// The first line without its LF, and the bytes behind the LF.
+/// The first line without its LF, and the bytes after the LF.
 pub fn next_line(bytes: &[u8]) -> Option<(&[u8], &[u8])>
     ensures lines { MatchOption result (bytes.now ≡ [])
         (λ next. lines_of bytes.now ≡ next.0.now ∷ lines_of next.1.now) }

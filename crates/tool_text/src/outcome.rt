@@ -2,13 +2,11 @@
 ghost use Rattle.std.specs.Prelude.{◌≡◌, ◌≤◌, ◌++◌, ◌+◌, OnOk, OnErr, codes, decimal, length};
 ghost use Rattle.arrayvec.specs.ArrayVec.{array_vec_len};
 ghost use Rattle.edge_traits.specs.Faults.{HasCause};
-ghost use Rattle.edge_traits.specs.Sink.{Appends};
+ghost use Rattle.edge_traits.specs.Sink.{Appends, AppendsPrefix};
 ghost use Rattle.tool_text.specs.Outcome.{outcome_text, address_text, code_text, lease_text, quiet_text};
-ghost use Rattle.tool_text.specs.Writing.{AppendsFront};
 
-use crate::writing::write_all;
 use arrayvec::ArrayVec;
-use edge_traits::{Failed, Sink};
+use edge_traits::{Failed, Sink, write_all};
 use itoa::Buffer;
 use join_history::Quiet;
 
@@ -19,13 +17,13 @@ pub enum Outcome {
     Grant { address: u16, until: u64 },
     /// The request is refused.
     Refuse { code: u8 },
-    /// The last decision stands, and gave this lease.
+    /// The last decision holds, and gave this lease.
     AgainGrant { address: u16, until: u64 },
-    /// The last decision stands, and was a refusal.
+    /// The last decision holds, and was a refusal.
     AgainRefuse { code: u8 },
     /// The request gets no answer.
     Quiet(Quiet),
-    /// The disk failed, and this is its count of faults. The decision stands and is pending.
+    /// The disk failed, and this is its count of faults. The decision was made and is pending.
     Unsure { faults: u64 },
     /// An entry is due, and the log has this many entries and no room.
     Full { entries: u32 },
@@ -43,7 +41,7 @@ const TEXT_SIZE: usize = 32;
 /// Prints the line of an outcome, with its LF.
 pub fn write_outcome<K: Sink>(out: &mut K, outcome: &Outcome) -> Result<(), Failed>
     ensures ok { OnOk result (Appends (K.written out.old) (K.written out.new) (outcome_text outcome.now)) }
-    ensures err { OnErr result (AppendsFront (K.written out.old) (K.written out.new) (outcome_text outcome.now)) }
+    ensures err { OnErr result (AppendsPrefix (K.written out.old) (K.written out.new) (outcome_text outcome.now)) }
     ensures cause { HasCause (K.fault_count out.old) (K.fault_count out.new) result }
 {
     write_all(out, text_of(outcome).as_slice())

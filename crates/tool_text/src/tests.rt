@@ -3,7 +3,7 @@ ghost use Rattle.std.specs.Prelude.{◌<◌, ◌^◌};
 
 use super::*;
 use arrayvec::ArrayVec;
-use edge_traits::{Failed, PledgeId, Sink};
+use edge_traits::{Failed, PledgeId, Sink, write_all};
 use join_history::Quiet;
 
 const ID: PledgeId = PledgeId([0x01, 0x23, 0x45, 0x67, 0x89, 0xab, 0xcd, 0xef]);

@@ -1,4 +1,4 @@
--- Each fault of the summary, behind sixteen bytes that agree with the header.
+-- Each fault of the summary, after sixteen bytes that agree with the header.
 use Rattle.std.proofs.Common.{inl, inr, refl, arith, ◌∙◌}
 use Rattle.journal_store.proofs.Headers.{agrees_less}
 use Rattle.journal_store.proofs.area.check_header.Goals as goal

@@ -1,4 +1,4 @@
--- A length that is in range is that of the body behind it.
+-- A length that is in range is that of the body after it.
 use Rattle.std.proofs.Common.{◌≡◌, ◌-◌, ◌++◌, ℕ, List, length, take, drop, sym, ap, ◌∙◌, arith, inl, inr, take-append-drop}
 use Rattle.std.proofs.lemmas.List.{take_all, length-drop}
 use Rattle.journal_text.specs.Numbers.{number_of}

@@ -1,4 +1,4 @@
-use Rattle.journal_store.proofs.Unique.{one_log, no_fault, formatted_is_empty}
+use Rattle.journal_store.proofs.Unique.{one_log, no_fault, empty_journal_has_no_entry}
 use Rattle.journal_store.proofs.Single.{one_fault}
 use Rattle.journal_store.proofs.Areas.{either}
 use Rattle.journal_store.proofs.laws.area_laws.Goals as goal
@@ -12,8 +12,8 @@ returns-clause-no_fault_with_log c end log area spot is fault = no_fault end log
 pub returns-clause-one_fault : goal.returns-clause-one_fault
 returns-clause-one_fault c area spot other a b = one_fault area spot other a b
 
-pub returns-clause-formatted_is_empty : goal.returns-clause-formatted_is_empty
-returns-clause-formatted_is_empty c = formatted_is_empty
+pub returns-clause-empty_journal_has_no_entry : goal.returns-clause-empty_journal_has_no_entry
+returns-clause-empty_journal_has_no_entry c = empty_journal_has_no_entry
 
 pub returns-clause-without_or_with : goal.returns-clause-without_or_with
 returns-clause-without_or_with c = either

@@ -19,11 +19,11 @@ returns-in-Done-clause-stands c e =
     let was = c.requires.stands in
     let read = c.in_ok-read_entries.ensures.read in
     let given = given read.0 c.args.batch.now c.requires.some c.requires.most read.1 read.2 in
-    (was.0 ++ given.0, c.in-Done.ensures.done refl refl was.0 given.0 was.1 given.1 given.2)
+    (was.0, was.1 ++ given.0, c.in-Done.ensures.done refl refl was.0 was.1 given.0 was.2 given.1 given.2)
 
 pub returns-clause-pending : goal.returns-clause-pending
 returns-clause-pending c pending =
     let was = c.requires.stands in
     let read = c.in_ok-read_entries.ensures.read in
     let given = given read.0 c.args.batch.now c.requires.some c.requires.most read.1 read.2 in
-    (was.0, given.0, c.in-Failed.ensures.failed refl refl was.0 given.0 was.1 given.1 given.2)
+    (was.0, was.1, given.0, c.in-Failed.ensures.failed refl refl was.0 was.1 given.0 was.2 given.1 given.2)

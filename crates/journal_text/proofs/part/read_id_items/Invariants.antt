@@ -1,10 +1,10 @@
 use Rattle.std.proofs.Common.{◌≡◌, ◌-◌, length}
 use Rattle.journal_text.specs.Reading.{items_at, id_of}
-use Rattle.journal_text.proofs.Loops.{with_front}
+use Rattle.journal_text.proofs.Loops.{with_prefix}
 use Rattle.journal_text.proofs.part.read_id_items.Given as goal
 
 abbrev pub invariant-loop-turn : goal.invariant-loop-turn
 invariant-loop-turn l = record {
   counted : length l.ids.items ≡ l._turn;
-  read : with_front l.ids.items (items_at id_of 8 (l.count - l._turn) l.end l.rest) ≡ items_at id_of 8 l.count l.end l.bytes;
+  read : with_prefix l.ids.items (items_at id_of 8 (l.count - l._turn) l.end l.rest) ≡ items_at id_of 8 l.count l.end l.bytes;
 }

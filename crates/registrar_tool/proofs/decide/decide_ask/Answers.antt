@@ -1,4 +1,4 @@
--- Each answer of the book is told of the request.
+-- Each answer of the book is the outcome of the request.
 use Rattle.std.proofs.Common.{sym, subst}
 use Rattle.std.proofs.lemmas.Bool.{some_since}
 use Rattle.std.proofs.lemmas.Slice.Zip.{AllZip-long}

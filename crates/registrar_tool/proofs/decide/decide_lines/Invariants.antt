@@ -1,4 +1,4 @@
-use Rattle.std.proofs.Common.{◌≤◌, length}
+use Rattle.std.proofs.Common.{◌≡◌, ◌≤◌, length}
 use Rattle.registrar_book.specs.Books.{book_disk}
 use Rattle.registrar_tool.specs.Told.{AreMoments}
 use Rattle.registrar_tool.specs.Opened.{IsReady, AreAskable, standing_of}
@@ -11,7 +11,7 @@ invariant-loop-line g l = record {
   moments : AreMoments g.D.Disk (standing_of l.initial.book) (standing_of l.book);
   askable : AreAskable l.ids l.rest;
   ready : IsReady l.book l.ids l.contexts;
-  later : g.K.Sink.fault_count l.initial.out ≤ g.K.Sink.fault_count l.out;
+  same : g.K.Sink.fault_count l.out ≡ g.K.Sink.fault_count l.initial.out;
   counted : g.D.Disk.fault_count (book_disk l.initial.book) ≤ g.D.Disk.fault_count (book_disk l.book);
 }
 

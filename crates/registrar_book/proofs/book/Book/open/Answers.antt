@@ -6,9 +6,9 @@ use Rattle.edge_traits.specs.Disk.{LeavesOnly}
 use Rattle.journal_text.specs.declared.entry.Entry.{Entry}
 use Rattle.journal_text.specs.Text.{IsSpellable}
 use Rattle.join_history.specs.Contexts.{context_count}
-use Rattle.registrar_state.specs.State.{spare}
-use Rattle.journal_store.specs.Store.{disk_of, Stands}
-use Rattle.registrar_book.specs.Journals.{AreSmall, HasFront}
+use Rattle.registrar_state.specs.State.{spare_room}
+use Rattle.journal_store.specs.Store.{disk_of}
+use Rattle.registrar_book.specs.Journals.{AreSmall, HasLog, HasPrefix}
 use Rattle.registrar_book.specs.Books.{IsKept}
 use Rattle.registrar_book.proofs.Planning.{contexts_left}
 use Rattle.registrar_book.proofs.book.Book.open.Goals as goal
@@ -22,19 +22,19 @@ put_all-requires-clause-sizes g c = subst AreSmall (sym c.deref.ensures.value) c
 pub add_all-requires-clause-contexts : goal.add_all-requires-clause-contexts
 add_all-requires-clause-contexts g c =
     let is = c.requires.prepared.4 in
-    subst (λ (l : List Entry). context_count l ≤ (spare c.args.prepared.desk.state).contexts) (sym c.deref-2.ensures.value)
-    (contexts_left c.requires.prepared.0 c.args.prepared.plan.entries.items (spare c.args.prepared.desk.state).contexts is.plan.legal is.contexts_left)
+    subst (λ (l : List Entry). context_count l ≤ (spare_room c.args.prepared.desk.state).contexts) (sym c.deref-2.ensures.value)
+    (contexts_left c.requires.prepared.0 c.args.prepared.plan.entries.items (spare_room c.args.prepared.desk.state).contexts is.plan.legal is.contexts_left)
 
 pub returns-in_default-clause-any_moment : goal.returns-in_default-clause-any_moment
 returns-in_default-clause-any_moment g c told =
     let log = c.args.prepared.desk.log.items in
     let new = c.new-press.ensures in
     let told' = subst (λ j. IsTrue (g.D.Disk.tells (disk_of j))) (sym new) told in
-    let stands = subst (λ j. Stands g.D.Disk.may_leave j log) (sym new) (c.requires.stands told) in
+    let stands = subst (λ j. HasLog g.D.Disk.may_leave j log) (sym new) (c.requires.stands told) in
     let all = c.put_all.ensures.any_moment told' log stands in
-    let all' = subst (λ j. LeavesOnly g.D.Disk.moment g.D.Disk.left_since (disk_of j) (disk_of c.put_all.new.self.journal) (HasFront (g.D.Disk.may_leave (disk_of j)) (length log) (log ++ c.deref.result.now))) new all in
-    let all'' = subst (λ (l : List Entry). LeavesOnly g.D.Disk.moment g.D.Disk.left_since (disk_of c.args.journal) (disk_of c.put_all.new.self.journal) (HasFront (g.D.Disk.may_leave (disk_of c.args.journal)) (length log) (log ++ l))) c.deref.ensures.value all' in
-    subst (λ d. LeavesOnly g.D.Disk.moment g.D.Disk.left_since (disk_of c.args.journal) d (HasFront (g.D.Disk.may_leave (disk_of c.args.journal)) (length log) (log ++ c.args.prepared.plan.entries.items))) (sym c.close.ensures) all''
+    let all' = subst (λ j. LeavesOnly g.D.Disk.moment g.D.Disk.left_since (disk_of j) (disk_of c.put_all.new.self.journal) (HasPrefix (length log) (log ++ c.deref.result.now))) new all in
+    let all'' = subst (λ (l : List Entry). LeavesOnly g.D.Disk.moment g.D.Disk.left_since (disk_of c.args.journal) (disk_of c.put_all.new.self.journal) (HasPrefix (length log) (log ++ l))) c.deref.ensures.value all' in
+    subst (λ d. LeavesOnly g.D.Disk.moment g.D.Disk.left_since (disk_of c.args.journal) d (HasPrefix (length log) (log ++ c.args.prepared.plan.entries.items))) (sym c.close.ensures) all''
 
 pub returns-clause-kept : goal.returns-clause-kept
 unfolding IsKept
@@ -42,17 +42,17 @@ returns-clause-kept g c told =
     let log = c.args.prepared.desk.log.items in
     let new = c.new-press.ensures in
     let told' = subst (λ j. IsTrue (g.D.Disk.tells (disk_of j))) (sym new) told in
-    let stands = subst (λ j. Stands g.D.Disk.may_leave j log) (sym new) (c.requires.stands told) in
+    let stands = subst (λ j. HasLog g.D.Disk.may_leave j log) (sym new) (c.requires.stands told) in
     let now = c.in-Ok.ensures.ok told' log stands in
     let same : c.add_all.new.self.log.items ≡ log ++ c.deref.result.now = c.add_all.ensures.log ∙ ap (λ (l : List Entry). log ++ l) (c.deref-2.ensures.value ∙ sym c.deref.ensures.value) in
-    inl (subst (λ (l : List Entry). Stands g.D.Disk.may_leave c.put_all.new.self.journal l) (sym same) now, c.add_all.ensures.durable)
+    inl (subst (λ (l : List Entry). HasLog g.D.Disk.may_leave c.put_all.new.self.journal l) (sym same) now, c.add_all.ensures.durable)
 
 pub returns-clause-any_moment : goal.returns-clause-any_moment
 returns-clause-any_moment g c told =
     let log = c.args.prepared.desk.log.items in
     let new = c.new-press.ensures in
     let told' = subst (λ j. IsTrue (g.D.Disk.tells (disk_of j))) (sym new) told in
-    let stands = subst (λ j. Stands g.D.Disk.may_leave j log) (sym new) (c.requires.stands told) in
+    let stands = subst (λ j. HasLog g.D.Disk.may_leave j log) (sym new) (c.requires.stands told) in
     let all = c.put_all.ensures.any_moment told' log stands in
-    let all' = subst (λ j. LeavesOnly g.D.Disk.moment g.D.Disk.left_since (disk_of j) (disk_of c.put_all.new.self.journal) (HasFront (g.D.Disk.may_leave (disk_of j)) (length log) (log ++ c.deref.result.now))) new all in
-    subst (λ (l : List Entry). LeavesOnly g.D.Disk.moment g.D.Disk.left_since (disk_of c.args.journal) (disk_of c.put_all.new.self.journal) (HasFront (g.D.Disk.may_leave (disk_of c.args.journal)) (length log) (log ++ l))) c.deref.ensures.value all'
+    let all' = subst (λ j. LeavesOnly g.D.Disk.moment g.D.Disk.left_since (disk_of j) (disk_of c.put_all.new.self.journal) (HasPrefix (length log) (log ++ c.deref.result.now))) new all in
+    subst (λ (l : List Entry). LeavesOnly g.D.Disk.moment g.D.Disk.left_since (disk_of c.args.journal) (disk_of c.put_all.new.self.journal) (HasPrefix (length log) (log ++ l))) c.deref.ensures.value all'

@@ -1,4 +1,4 @@
--- Batch after batch is put behind what is.
+-- Batch after batch is put after what is durable.
 use Rattle.std.proofs.Common.{◌==◌, Bool, true, false, ◌≡◌, ◌≤◌, ◌++◌, [], ◌∷◌, List, length, take, ◌∙◌, refl, sym, ap, subst, arith, length-append, take-append-drop}
 use Rattle.std.specs.Prelude.{IsTrue, Result, Ok, Err, OnOk}
 use Rattle.std.specs.List.{AllByRecursion}
@@ -6,8 +6,8 @@ use Rattle.std.proofs.lemmas.Bool.Decides.{Decides-eqb}
 use Rattle.edge_traits.specs.Disk.{LeavesOnly}
 use Rattle.journal_text.specs.declared.entry.Entry.{Entry}
 use Rattle.journal_text.specs.Text.{IsSpellable}
-use Rattle.journal_store.specs.Store.{disk_of, Stands}
-use Rattle.registrar_book.specs.Journals.{HasFront}
+use Rattle.journal_store.specs.Store.{disk_of}
+use Rattle.registrar_book.specs.Journals.{HasLog, HasPrefix}
 use Rattle.registrar_book.proofs.Batches.{none_put, more_put, cut_put, all_put, small_after}
 use Rattle.registrar_book.proofs.press.Press.put_all.Goals as goal
 
@@ -17,7 +17,7 @@ loop-rest-init g c = record {
       (g.met.D.Disk.only_now (disk_of c.args.self.now.journal));
   pending = c.requires.nothing_pending;
   reach = omega arith;
-  counted = omega arith;
+  counted = refl;
   tells = refl;
   spellable = c.requires.spellable;
   small = c.requires.sizes;
@@ -28,7 +28,7 @@ put-requires-clause-stands g c told =
     let told' = subst IsTrue c.loop-rest.invariant.tells told in
     let stands = c.requires.stands told' in
     let put = c.loop-rest.invariant.put in
-    (stands.0 ++ put.front, put.stands told' stands.0 stands.1)
+    (stands.0 ++ put.prefix, put.stands told' stands.0 stands.1)
 
 pub returns-in-Err-clause-any_moment : goal.returns-in-Err-clause-any_moment
 returns-in-Err-clause-any_moment g c =
@@ -36,7 +36,6 @@ returns-in-Err-clause-any_moment g c =
     = sym (ap (λ (l : List Entry). l ++ c.split_at.result.1.now) c.split_at.ensures.front ∙ ap (λ (l : List Entry). take c.min.result c.loop-rest.rest.now ++ l) c.split_at.ensures.back ∙ take-append-drop c.min.result c.loop-rest.rest.now) in
     cut_put g.D.Disk.may_leave g.D.Disk.moment g.D.Disk.left_since (IsTrue (g.D.Disk.tells (disk_of c.args.self.now.journal))) c.args.self.now.journal c.loop-rest.self.journal c.put.new.self.journal
     c.args.entries.now c.loop-rest.rest.now c.split_at.result.0.now c.split_at.result.1.now c.loop-rest.invariant.put same
-    (λ image le left. g.met.D.Disk.counts_now (disk_of c.loop-rest.self.journal) (g.D.Disk.moment (disk_of c.args.self.now.journal)) image le left)
     (λ told log stands. c.put.ensures.any_moment (subst IsTrue (sym c.loop-rest.invariant.tells) told) log stands)
 
 none_left : (rest : List Entry) (b : Bool) → b ≡ (length rest == 0) → b ≡ true → rest ≡ []
@@ -64,12 +63,11 @@ loop-rest-preserved g c =
       put =
           more_put g.D.Disk.may_leave g.D.Disk.moment g.D.Disk.left_since (IsTrue (g.D.Disk.tells (disk_of c.args.self.now.journal))) c.args.self.now.journal c.loop-rest.self.journal c.put.new.self.journal
           c.args.entries.now c.loop-rest.rest.now c.split_at.result.0.now c.split_at.result.1.now c.loop-rest.invariant.put same
-          (λ image le left. g.met.D.Disk.counts_now (disk_of c.loop-rest.self.journal) (g.D.Disk.moment (disk_of c.args.self.now.journal)) image le left)
           (λ told log stands. c.put.ensures.any_moment (subst IsTrue (sym c.loop-rest.invariant.tells) told) log stands)
           (λ told log stands. c.in_default.ensures.ok (subst IsTrue (sym c.loop-rest.invariant.tells) told) log stands);
       pending = ok_gives c.put.result _ c.in_default.is c.put.ensures.pending;
       reach = omega (arith, c.put.ensures.reach, c.loop-rest.invariant.reach, ap length same, length-append c.split_at.result.0.now c.split_at.result.1.now, c.split_at.ensures.front_len, c.min.ensures, some);
-      counted = omega (arith, c.loop-rest.invariant.counted, c.put.ensures.cause.later);
+      counted = c.in_default.ensures.cause.kept refl ∙ c.loop-rest.invariant.counted;
       tells = c.put.ensures.tells ∙ c.loop-rest.invariant.tells;
       spellable = all_after IsSpellable c.split_at.result.0.now c.split_at.result.1.now (subst (AllByRecursion IsSpellable) same c.loop-rest.invariant.spellable);
       small = small_after c.loop-rest.rest.now c.split_at.result.0.now c.split_at.result.1.now c.loop-rest.invariant.small same;
@@ -78,12 +76,12 @@ loop-rest-preserved g c =
 pub returns-clause-ok : goal.returns-clause-ok
 returns-clause-ok g c told log stands =
     let put = c.loop-rest.invariant.put in
-    subst (λ (l : List Entry). Stands g.D.Disk.may_leave c.loop-rest.self.journal (log ++ l)) (all_put g.D.Disk.may_leave g.D.Disk.moment g.D.Disk.left_since (IsTrue (g.D.Disk.tells (disk_of c.args.self.now.journal))) c.args.self.now.journal c.loop-rest.self.journal c.args.entries.now c.loop-rest.rest.now (none_left c.loop-rest.rest.now c.is_empty.result c.is_empty.ensures c.loop-rest-test.false) put)
+    subst (λ (l : List Entry). HasLog g.D.Disk.may_leave c.loop-rest.self.journal (log ++ l)) (all_put g.D.Disk.may_leave g.D.Disk.moment g.D.Disk.left_since (IsTrue (g.D.Disk.tells (disk_of c.args.self.now.journal))) c.args.self.now.journal c.loop-rest.self.journal c.args.entries.now c.loop-rest.rest.now (none_left c.loop-rest.rest.now c.is_empty.result c.is_empty.ensures c.loop-rest-test.false) put)
     (put.stands told log stands)
 
 pub returns-clause-any_moment : goal.returns-clause-any_moment
 returns-clause-any_moment g c told log stands =
     let put = c.loop-rest.invariant.put in
-    subst (λ (l : List Entry). LeavesOnly g.D.Disk.moment g.D.Disk.left_since (disk_of c.args.self.now.journal) (disk_of c.loop-rest.self.journal) (HasFront (g.D.Disk.may_leave (disk_of c.args.self.now.journal)) (length log) (log ++ l)))
+    subst (λ (l : List Entry). LeavesOnly g.D.Disk.moment g.D.Disk.left_since (disk_of c.args.self.now.journal) (disk_of c.loop-rest.self.journal) (HasPrefix (length log) (log ++ l)))
     (all_put g.D.Disk.may_leave g.D.Disk.moment g.D.Disk.left_since (IsTrue (g.D.Disk.tells (disk_of c.args.self.now.journal))) c.args.self.now.journal c.loop-rest.self.journal c.args.entries.now c.loop-rest.rest.now (none_left c.loop-rest.rest.now c.is_empty.result c.is_empty.ensures c.loop-rest-test.false) put)
     (put.any_moment told log stands)

@@ -12,7 +12,7 @@ invariant-loop-rest g l = record {
   put : ArePut g.D.Disk.may_leave g.D.Disk.moment g.D.Disk.left_since (IsTrue (g.D.Disk.tells (disk_of l.initial.self.journal))) l.initial.self.journal l.self.journal l.entries l.rest;
   pending : pending_of l.self.journal ≡ [];
   reach : reach_of l.self.journal + 4101 * length l.rest ≤ reach_of l.initial.self.journal + 4101 * length l.entries;
-  counted : g.D.Disk.fault_count (disk_of l.initial.self.journal) ≤ g.D.Disk.fault_count (disk_of l.self.journal);
+  counted : g.D.Disk.fault_count (disk_of l.self.journal) ≡ g.D.Disk.fault_count (disk_of l.initial.self.journal);
   tells : g.D.Disk.tells (disk_of l.self.journal) ≡ g.D.Disk.tells (disk_of l.initial.self.journal);
   spellable : AllByRecursion IsSpellable l.rest;
   small : AreSmall l.rest;

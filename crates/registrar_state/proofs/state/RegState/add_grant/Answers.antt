@@ -1,7 +1,7 @@
 use Rattle.std.proofs.Common.{refl, arith}
 use Rattle.address_leases.specs.Steps.{is_kept}
 use Rattle.journal_text.specs.declared.entry.Entry.TheVariants.{Grant}
-use Rattle.registrar_state.specs.State.{spare}
+use Rattle.registrar_state.specs.State.{spare_room}
 use Rattle.registrar_state.proofs.RoomLemmas.{room_freed}
 use Rattle.registrar_state.proofs.PledgeCount.{room_for}
 use Rattle.registrar_state.proofs.StateLemmas.{IsLegal-stands, known_of}
@@ -23,7 +23,7 @@ pub pass-requires : goal.pass-requires
 pass-requires c = grant_timely c.args.time c.args.context c.args.number c.args.address c.args.until c.requires.may
 
 pub grant-requires : goal.grant-requires
-unfolding spare
+unfolding spare_room
 grant-requires c =
     let old = c.args.self.now in
     let fits = old.leases_fit in

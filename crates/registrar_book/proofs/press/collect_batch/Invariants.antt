@@ -2,7 +2,7 @@ use Rattle.std.proofs.Common.{◌≡◌, ◌≤◌, ◌+◌, ◌++◌, length}
 use Rattle.std.specs.List.{AllByRecursion}
 use Rattle.journal_text.specs.Text.{Fits, IsSpellable, entries_text}
 use Rattle.registrar_book.specs.Journals.{sizes_of}
-use Rattle.registrar_book.proofs.press.gather_all.Given as goal
+use Rattle.registrar_book.proofs.press.collect_batch.Given as goal
 
 abbrev pub invariant-loop-entry : goal.invariant-loop-entry
 invariant-loop-entry l = record {

@@ -1,7 +1,7 @@
 -- An entry has room where its greatest size has.
 use Rattle.std.proofs.Common.{arith}
-use Rattle.registrar_book.proofs.Fronts.{enroll_size, ok_unless}
-use Rattle.registrar_book.proofs.press.gather.Goals as goal
+use Rattle.registrar_book.proofs.Prefixes.{enroll_size, ok_unless}
+use Rattle.registrar_book.proofs.press.collect_entry.Goals as goal
 
 pub unwrap-requires : goal.unwrap-requires
 unwrap-requires c =

@@ -2,7 +2,7 @@
 use Rattle.std.proofs.Common.{arith}
 use Rattle.byteorder.specs.Numbers.{big_from-lt}
 use Rattle.journal_text.specs.Numbers.{number_of}
-use Rattle.journal_text.proofs.field.front_number.Goals as goal
+use Rattle.journal_text.proofs.field.prefix_number.Goals as goal
 
 pub returns-clause-value : goal.returns-clause-value
 unfolding number_of
