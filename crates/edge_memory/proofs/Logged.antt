@@ -76,7 +76,7 @@ synced_call bytes (Synced other) area is = let same : other ≡ area = cc is in 
 pub call_within : (bytes : List ℕ) (calls : List Call) (i count : ℕ) → i < count → count ≤ length (map (event_of bytes) calls) → i < length calls
 call_within bytes calls i count below le = let long : length (map (event_of bytes) calls) ≡ length calls = length-map calls (event_of bytes) in omega arith
 
--- the event of a call that wrote, with its bytes as they stand in the log
+-- the event of a call that wrote, with its bytes as they are in the log
 pub write_at : (bytes now : List ℕ) (calls : List Call) (i : ℕ) (call : Call) (area : Area) (at from len : ℕ) → i < length calls → call ≡ get_or calls i call → call ≡ Wrote area at from len → now ≡ bytes
     → get_or (map (event_of bytes) calls) i Idle ≡ Write area at (take (from + len - from) (drop from now))
 write_at bytes now calls i call area at from len within here is same =

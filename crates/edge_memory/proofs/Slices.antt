@@ -2,7 +2,7 @@
 use Rattle.std.proofs.Common.{◌≡◌, ℕ, ◌+◌, ◌-◌, ◌≤◌, List, ◌++◌, length, take, drop, sym, ◌∙◌, ap, arith, take-append-drop}
 use Rattle.std.proofs.lemmas.List.{take_at, drop-drop, length-take}
 
--- the front of what is left, copied to the front of a buffer, and the rest
+-- the front of what is left, copied to a prefix of a buffer, and the rest
 pub copied_front : (bytes part buf : List ℕ) (at k : ℕ) → k ≤ length buf → length part ≡ length (take k buf) → part ≡ take (at + k - at) (drop at bytes)
     → drop at bytes ≡ take k (part ++ drop k buf) ++ drop (at + k) bytes
 copied_front bytes part buf at k fits long is =

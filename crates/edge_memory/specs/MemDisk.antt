@@ -1,11 +1,15 @@
 -- What a disk in memory tells.
-use Rattle.std.specs.Prelude.{ℕ, ◌<◌, ◌≤◌, length}
+use Rattle.std.specs.Prelude.{ℕ, ◌<◌, ◌≤◌, List, length, take, Option, None, Some}
 use Rattle.edge_traits.specs.Disk.{Areas}
 use Rattle.edge_memory.specs.declared.calls.Calls.{Calls}
 use Rattle.edge_memory.specs.declared.disk.MemDisk.{MemDisk}
 use Rattle.edge_memory.specs.Contents.{areas_of}
 use Rattle.edge_memory.specs.CallLog.{events_of}
-use Rattle.edge_memory.specs.Story.{Story, MayLeave, LeftSince}
+use Rattle.edge_memory.specs.Story.{Story, Event, Idle, Sync, MayLeave, LeftSince}
+use Rattle.edge_memory.specs.Calls.{next_listed, failing_size}
+use Rattle.edge_memory.specs.declared.failing.Part.{Part}
+use Rattle.edge_memory.specs.declared.failing.Part.TheVariants.{Nothing, Half, All}
+use Rattle.edge_traits.specs.declared.names.Area.{Area}
 
 -- what a read gives
 abbrev pub seen_of : MemDisk → Areas
@@ -46,3 +50,14 @@ CanWrite disk count = (0 < disk.log.free) × (count ≤ disk.log.room)
 -- how its calls are numbered
 abbrev pub calls_of : MemDisk → Calls
 calls_of disk = disk.calls
+
+-- what the next call writes of these bytes where it fails
+abbrev pub failing_bytes : MemDisk → List ℕ → List ℕ
+failing_bytes disk bytes = take (failing_size (next_listed disk.calls) (length bytes)) bytes
+
+-- what a sync does that fails: all or nothing
+abbrev pub failing_sync : Option Part → Area → Event
+failing_sync None area = Idle
+failing_sync (Some Nothing) area = Idle
+failing_sync (Some Half) area = Idle
+failing_sync (Some All) area = Sync area

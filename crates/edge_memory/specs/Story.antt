@@ -53,6 +53,19 @@ abbrev pub all_inside : Areas → List Event → Bool
 all_inside seen [] = true
 all_inside seen (event ∷ events) = is_inside seen event && all_inside (seen_after seen event) events
 
+-- ---- what was synced
+
+-- what the last sync of each area left, or what stood there first
+abbrev pub settled_after : Areas → Areas → Event → Areas
+settled_after seen held Idle = held
+settled_after seen held (Write area at bytes) = held
+settled_after seen held (Sync Left) = record { left = seen.left; right = held.right }
+settled_after seen held (Sync Right) = record { left = held.left; right = seen.right }
+
+abbrev pub settled : Areas → Areas → List Event → Areas
+settled seen held [] = held
+settled seen held (event ∷ events) = settled (seen_after seen event) (settled_after seen held event) events
+
 -- ---- what a crash may leave
 
 -- What a crash may leave of what it might have left before the call: a write may be torn. A sync rules out what differs
@@ -65,6 +78,10 @@ LeavesAfter seen (Sync area) held image = (image ≡ held) × (bytes_of held are
 abbrev pub Leaves : Areas → Areas → List Event → Areas → Type 0
 Leaves seen held [] image = image ≡ held
 Leaves seen held (event ∷ events) image = (next : Areas) × LeavesAfter seen event held next × Leaves (seen_after seen event) next events image
+
+-- each area as its last sync among so many calls left it, or as it was made
+abbrev pub settled_at : Story → ℕ → Areas
+settled_at story moment = settled story.first story.first (take moment story.events)
 
 -- after so many calls
 abbrev pub LeavesAt : Story → ℕ → Areas → Type 0

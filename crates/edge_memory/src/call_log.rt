@@ -9,7 +9,7 @@ use crate::pick::Pick;
 use edge_traits::Area;
 use std::alloc::{AllocError, Global};
 
-/// A call as it was done. A write names its bytes by where they stand in the log.
+/// A call as it was done. A write names its bytes by where they are in the log.
 #[derive(Clone, Copy)]
 pub enum Call {
     Rested,
@@ -49,9 +49,9 @@ pub struct CallLog {
 }
 
 impl CallLog {
-    ghost use Rattle.std.specs.Prelude.{◌≡◌, ◌≤◌, ◌<◌, ◌+◌, ◌++◌, [], ◌∷◌, length, take, slice_index_or, IfOk, OnOk, IsTrue, ℕ};
+    ghost use Rattle.std.specs.Prelude.{◌≡◌, ◌≤◌, ◌<◌, ◌+◌, ◌++◌, [], ◌∷◌, length, take, slice_index_or, IfOk, OnOk, IsTrue, IsFalse, ℕ};
     ghost use Rattle.edge_memory.specs.Contents.{areas_of};
-    ghost use Rattle.edge_memory.specs.Story.{Idle, Write, Sync, Leaves, all_inside, replayed};
+    ghost use Rattle.edge_memory.specs.Story.{Idle, Write, Sync, Leaves, all_inside, replayed, settled};
     ghost use Rattle.edge_memory.specs.CallLog.{events_of};
 
     /// A log with room for so many calls and so many bytes.
@@ -143,23 +143,21 @@ impl CallLog {
         self.free -= 1;
     }
 
-    /// Makes of the first contents what a crash after so many calls may leave, with the outcomes that `pick` gives.
-    pub fn leave(
-        &self,
-        contents: &mut Contents,
-        count: usize,
-        pick: &mut Pick,
-    ) -> Result<(), AllocError>
+    /// Makes of the first contents what a crash after so many calls may leave. What wasn't synced didn't arrive with pick 0,
+    /// arrived whole with 1, and else came through as the pick draws.
+    pub fn leave(&self, contents: &mut Contents, count: usize, pick: u64) -> Result<(), AllocError>
         requires count { count ≤ length (events_of self.now) }
         requires inside { all_inside (areas_of contents.old) (events_of self.now) ≡ true }
         ensures leaves { OnOk result (Leaves (areas_of contents.old) (areas_of contents.old)
             (take count (events_of self.now)) (areas_of contents.new)) }
-        ensures arrived { pick.old.number ≡ 1 → OnOk result
+        ensures stayed { pick ≡ 0 → OnOk result
+            (areas_of contents.new ≡ settled (areas_of contents.old) (areas_of contents.old) (take count (events_of self.now))) }
+        ensures arrived { pick ≡ 1 → OnOk result
             (areas_of contents.new ≡ replayed (areas_of contents.old) (take count (events_of self.now))) }
     {
-        let whole = pick.is_whole();
-        let left = self.kept_before(Area::Left, count, whole);
-        let right = self.kept_before(Area::Right, count, whole);
+        let mut draws = Pick::new(pick);
+        let left = self.kept_before(Area::Left, count, pick == 1);
+        let right = self.kept_before(Area::Right, count, pick == 1);
         for i in 0..count {
             match self.calls[i] {
                 Call::Rested | Call::Synced(_) => {}
@@ -172,8 +170,8 @@ impl CallLog {
                     let bytes = &self.bytes[from..from + len];
                     if i < synced_of(area, left, right) {
                         contents.overwrite(area, at, bytes)?;
-                    } else {
-                        contents.tear(area, at, bytes, pick)?;
+                    } else if pick != 0 {
+                        contents.tear(area, at, bytes, &mut draws)?;
                     }
                 }
             }
@@ -185,6 +183,8 @@ impl CallLog {
     fn kept_before(&self, area: Area, count: usize, whole: bool) -> usize
         requires { count ≤ length (events_of self.now) }
         ensures synced { (k : ℕ) → k < count → slice_index_or (events_of self.now) k Idle ≡ Sync area → k < result }
+        ensures last { IsFalse whole → (k : ℕ) → result ≡ k + 1 → slice_index_or (events_of self.now) k Idle ≡ Sync area }
+        ensures most { result ≤ count }
         ensures whole { IsTrue whole → count ≤ result }
     {
         if whole {
@@ -197,7 +197,9 @@ impl CallLog {
     // How many calls there are up to the last sync of the area among the first `count` ones.
     fn synced_before(&self, area: Area, count: usize) -> usize
         requires { count ≤ length (events_of self.now) }
-        ensures { (k : ℕ) → k < count → slice_index_or (events_of self.now) k Idle ≡ Sync area → k < result }
+        ensures synced { (k : ℕ) → k < count → slice_index_or (events_of self.now) k Idle ≡ Sync area → k < result }
+        ensures last { (k : ℕ) → result ≡ k + 1 → slice_index_or (events_of self.now) k Idle ≡ Sync area }
+        ensures most { result ≤ count }
     {
         let mut synced = 0;
         for i in 0..count {

@@ -2,14 +2,14 @@
 ghost use Rattle.std.specs.Prelude.{◌<◌, ◌^◌};
 
 use crate::NoMemory;
+use crate::failing::{FailingCall, Part};
 use edge_traits::Failed;
 use std::alloc::Global;
 
-/// The numbers of the calls that fail, from 0, the number of the next call, and how many failed. Both counts stop at
-/// 2^64 - 1.
+/// The calls that fail, the number of the next call, from 0, and how many failed. Both counts stop at 2^64 - 1.
 #[derive(Drop)]
 pub struct Calls {
-    failing: Vec<u64>,
+    failing: Vec<FailingCall>,
     next: u64,
     faults: u64,
     ghost next_fits: { next < 2 ^ 64 },
@@ -17,10 +17,10 @@ pub struct Calls {
 }
 
 impl Calls {
-    ghost use Rattle.std.specs.Prelude.{◌≡◌, ◌↔◌, ◌⊎◌, IfOk, IsErr, IsTrue, IsFalse};
-    ghost use Rattle.edge_memory.specs.Calls.{IsFresh, IsListed, Counts};
+    ghost use Rattle.std.specs.Prelude.{◌≡◌, ◌↔◌, ◌⊎◌, IfOk, IsErr, IsFalse};
+    ghost use Rattle.edge_memory.specs.Calls.{IsFresh, IsListed, Counts, listed_part, with_part};
 
-    pub fn new(alloc: Global, failing: &[u64]) -> Result<Self, NoMemory>
+    pub fn new(alloc: Global, failing: &[FailingCall]) -> Result<Self, NoMemory>
         ensures { IfOk result (λ calls. IsFresh failing.now calls) }
     {
         Ok(Calls {
@@ -30,24 +30,52 @@ impl Calls {
         })
     }
 
+    /// The calls of these numbers fail, and each does this part of its work.
+    pub fn numbered(alloc: Global, numbers: &[u64], part: Part) -> Result<Self, NoMemory>
+        ensures { IfOk result (λ calls. IsFresh (with_part part numbers.now) calls) }
+    {
+        let mut failing = Vec::new(alloc);
+        let mut rest = numbers;
+        while let Some((number, after)) = rest.split_first() {
+            failing.push(FailingCall {
+                number: *number,
+                part,
+            })?;
+            rest = after;
+        }
+        Ok(Calls {
+            failing,
+            next: 0,
+            faults: 0,
+        })
+    }
+
+    /// The part of its work that the next call does, where it is listed.
+    pub fn listed(&self) -> Option<Part>
+        ensures { result ≡ listed_part self.now.failing.items self.now.next }
+    {
+        let mut rest = self.failing.as_slice();
+        while let Some((call, after)) = rest.split_first() {
+            if call.number == self.next {
+                return Some(call.part);
+            }
+            rest = after;
+        }
+        None
+    }
+
     /// Numbers a call, which fails where its number is listed and where it can't be done.
     pub fn number(&mut self, can: bool) -> Result<(), Failed>
         ensures fails { IsErr result ↔ (IsListed self.old ⊎ IsFalse can) }
         ensures counted { Counts self.old self.new result }
     {
-        let listed = self.is_listed();
+        let listed = self.listed().is_some();
         self.next = self.next.saturating_add(1);
         if listed || !can {
             self.faults = self.faults.saturating_add(1);
             return Err(Failed);
         }
         Ok(())
-    }
-
-    fn is_listed(&self) -> bool
-        ensures { IsTrue result ↔ IsListed self.now }
-    {
-        self.failing.contains(&self.next)
     }
 
     pub fn faults(&self) -> u64

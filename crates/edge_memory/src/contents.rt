@@ -37,7 +37,7 @@ impl Contents {
         }
     }
 
-    /// Puts bytes over what stands in the area from this place on, and past its end.
+    /// Puts bytes over what is in the area from this place on, and past its end.
     pub fn overwrite(&mut self, area: Area, at: usize, bytes: &[u8]) -> Result<(), AllocError>
         requires { at ≤ length (bytes_of (areas_of self.old) area) }
         ensures written { OnOk result (Changes area (Overwrites at bytes.now) (areas_of self.old) (areas_of self.new)) }
@@ -50,7 +50,7 @@ impl Contents {
         }
     }
 
-    /// Writes as a crash may cut it short, with the outcomes that `pick` gives.
+    /// Writes as a crash may cut it short, with the outcome that `pick` draws.
     pub fn tear(
         &mut self,
         area: Area,
@@ -88,19 +88,20 @@ fn overwrite(content: &mut Vec<u8>, at: usize, bytes: &[u8]) -> Result<(), Alloc
     content.extend_from_slice(&bytes[over..])
 }
 
-// Past the end a byte that doesn't arrive keeps all bytes behind it out. `at + i` is compared with the end without the
-// sum, which might not fit.
+// Nothing arrives where what was written before it didn't.
 fn tear(content: &mut Vec<u8>, at: usize, bytes: &[u8], pick: &mut Pick) -> Result<(), AllocError>
     ensures { OnOk result (Torn at (length bytes.now) content.old.items content.new.items) }
 {
-    for (i, byte) in bytes.iter().enumerate() {
-        let end = content.len();
-        if i < end && at < end - i {
-            content[at + i] = pick.byte(content[at + i], *byte);
-        } else if i <= end && at == end - i {
-            if let Some(arrived) = pick.arrival(*byte) {
-                content.push(arrived)?;
-            }
+    if content.len() < at {
+        return Ok(());
+    }
+    let torn = pick.tear(bytes.len());
+    for (i, byte) in bytes[..torn.reach].iter().enumerate() {
+        let place = at + i;
+        if place < content.len() {
+            content[place] = pick.byte(torn.fill, content[place], *byte);
+        } else {
+            content.push(pick.byte(torn.fill, 0, *byte))?;
         }
     }
     Ok(())

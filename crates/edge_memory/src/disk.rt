@@ -8,12 +8,13 @@ use crate::NoMemory;
 use crate::call_log::CallLog;
 use crate::calls::Calls;
 use crate::contents::Contents;
-use crate::pick::Pick;
+use crate::failing::{FailingCall, Part};
 use edge_traits::{Area, Disk, Failed};
 use std::alloc::Global;
 
-/// Two areas and the record of the calls on them. A call fails where its number is listed, once the record is full,
-/// and where a write passes the room. A listed write does its first half; another call that fails does nothing.
+/// Two areas and the record of the calls on them. A call fails where it is listed, once the record is full, and where a
+/// write passes the room. A listed call does the part of its work that is listed with it: a read and a write do their
+/// first bytes, and half of a sync is nothing. Another call that fails does nothing.
 #[derive(Drop)]
 pub struct MemDisk {
     first: Contents,
@@ -28,12 +29,13 @@ pub struct MemDisk {
 impl MemDisk {
     ghost use Rattle.std.specs.Prelude.{◌≡◌, ◌≤◌, ◌<◌, ◌+◌, ◌-◌, ◌↔◌, ◌⊎◌, [], length, take, IfOk, IsErr, IsTrue};
     ghost use Rattle.edge_traits.specs.Disk.{bytes_of, Changes, Overwrites, LeavesNoMore, Elapses};
-    ghost use Rattle.edge_memory.specs.Calls.{IsFresh, IsListed, Counts};
-    ghost use Rattle.edge_memory.specs.Story.{Idle, Write, Sync, LeavesAt, with_event, recorded, replayed};
+    ghost use Rattle.edge_memory.specs.Calls.{IsFresh, IsListed, Counts, with_part, failing_size, next_listed};
+    ghost use Rattle.edge_memory.specs.declared.failing.Part.TheVariants.{Half};
+    ghost use Rattle.edge_memory.specs.Story.{Idle, Write, Sync, LeavesAt, settled_at, with_event, recorded, replayed};
     ghost use Rattle.edge_memory.specs.MemDisk.{seen_of, story_of, may_leave_of, moment_of, left_since_of, room_of, written_of, calls_left_of, CanWrite, calls_of};
 
-    /// A disk with these areas, all of them synced, whose calls of these numbers, from 0, fail. It records so many calls
-    /// and so many written bytes.
+    /// A disk with these areas, all of them synced, whose calls of these numbers, from 0, fail after half of their work. It
+    /// records so many calls and so many written bytes.
     pub fn new(
         alloc: Global,
         left: &[u8],
@@ -48,21 +50,64 @@ impl MemDisk {
         ensures events { IfOk result (λ disk. (story_of disk).events ≡ []) }
         ensures calls { IfOk result (λ disk. calls_left_of disk ≡ calls) }
         ensures room { IfOk result (λ disk. room_of disk ≡ room) }
+        ensures numbers { IfOk result (λ disk. IsFresh (with_part Half failing.now) (calls_of disk)) }
+    {
+        let numbers = Calls::numbered(alloc, failing, Part::Half)?;
+        MemDisk::with_calls(alloc, left, right, numbers, calls, room)
+    }
+
+    /// The same, with the part of its work that each call does which fails.
+    pub fn with_failing(
+        alloc: Global,
+        left: &[u8],
+        right: &[u8],
+        failing: &[FailingCall],
+        calls: usize,
+        room: usize,
+    ) -> Result<Self, NoMemory>
+        ensures left { IfOk result (λ disk. (seen_of disk).left ≡ left.now) }
+        ensures right { IfOk result (λ disk. (seen_of disk).right ≡ right.now) }
+        ensures synced { IfOk result (λ disk. (story_of disk).first ≡ seen_of disk) }
+        ensures events { IfOk result (λ disk. (story_of disk).events ≡ []) }
+        ensures calls { IfOk result (λ disk. calls_left_of disk ≡ calls) }
+        ensures room { IfOk result (λ disk. room_of disk ≡ room) }
         ensures numbers { IfOk result (λ disk. IsFresh failing.now (calls_of disk)) }
+    {
+        let numbers = Calls::new(alloc, failing)?;
+        MemDisk::with_calls(alloc, left, right, numbers, calls, room)
+    }
+
+    fn with_calls(
+        alloc: Global,
+        left: &[u8],
+        right: &[u8],
+        numbers: Calls,
+        calls: usize,
+        room: usize,
+    ) -> Result<Self, NoMemory>
+        ensures left { IfOk result (λ disk. (seen_of disk).left ≡ left.now) }
+        ensures right { IfOk result (λ disk. (seen_of disk).right ≡ right.now) }
+        ensures synced { IfOk result (λ disk. (story_of disk).first ≡ seen_of disk) }
+        ensures events { IfOk result (λ disk. (story_of disk).events ≡ []) }
+        ensures calls { IfOk result (λ disk. calls_left_of disk ≡ calls) }
+        ensures room { IfOk result (λ disk. room_of disk ≡ room) }
+        ensures numbers { IfOk result (λ disk. calls_of disk ≡ numbers) }
     {
         Ok(MemDisk {
             first: Contents::new(alloc, left, right, 0)?,
             seen: Contents::new(alloc, left, right, room)?,
             log: CallLog::new(alloc, calls, room)?,
-            calls: Calls::new(alloc, failing)?,
+            calls: numbers,
         })
     }
 
     /// One image that a crash after the first `moment` calls may leave, as a disk whose calls all work and whose record is
     /// as long as this one's. A moment that is still to come is read as now. `pick` chooses among the images: with 0 what
-    /// wasn't synced didn't arrive, with 1 all arrived, and with any other number parts did.
+    /// wasn't synced didn't arrive, with 1 all arrived, and with any other number each write that wasn't synced came through
+    /// in its own way: not at all, as a prefix, whole, as zeros, as any bytes or as a mix.
     pub fn image(&self, alloc: Global, moment: u64, pick: u64) -> Result<MemDisk, NoMemory>
         ensures left { IfOk result (λ image. LeavesAt (story_of self.now) moment (seen_of image)) }
+        ensures stayed { pick ≡ 0 → IfOk result (λ image. seen_of image ≡ settled_at (story_of self.now) moment) }
         ensures arrived { pick ≡ 1 → IfOk result (λ image.
             seen_of image ≡ replayed (story_of self.now).first (take moment (story_of self.now).events)) }
         ensures synced { IfOk result (λ image. (story_of image).first ≡ seen_of image) }
@@ -74,7 +119,7 @@ impl MemDisk {
         let count = self.log.len().min(moment as usize);
         let (left, right) = (self.first.area(Area::Left), self.first.area(Area::Right));
         let mut held = Contents::new(alloc, left, right, 0)?;
-        self.log.leave(&mut held, count, &mut Pick::new(pick))?;
+        self.log.leave(&mut held, count, pick)?;
         let (left, right) = (held.area(Area::Left), held.area(Area::Right));
         MemDisk::new(
             alloc,
@@ -127,6 +172,17 @@ impl MemDisk {
         self.log.sync(area);
     }
 
+    // How many of so many bytes the next call does where it fails.
+    fn failing_size(&self, count: usize) -> usize
+        ensures size { result ≡ failing_size (next_listed (calls_of self.now)) count }
+        ensures most { result ≤ count }
+    {
+        match self.calls.listed() {
+            Some(part) => part.size(count),
+            None => 0,
+        }
+    }
+
     fn can_write(&self, count: usize) -> bool
         ensures { IsTrue result ↔ CanWrite self.now count }
     {
@@ -149,12 +205,12 @@ impl MemDisk {
 }
 
 impl Disk for MemDisk {
-    ghost use Rattle.std.specs.Prelude.{◌≡◌, ◌≤◌, ◌+◌, ◌/◌, ◌↔◌, ◌⊎◌, true, length, take, drop, IfOk, OnOk, OnErr, IsErr};
+    ghost use Rattle.std.specs.Prelude.{◌≡◌, ◌≤◌, ◌+◌, ◌++◌, ◌↔◌, ◌⊎◌, true, length, take, drop, IfOk, OnOk, OnErr, IsErr};
     ghost use Rattle.edge_traits.specs.Disk.{bytes_of, Changes, Overwrites, Torn, Follows, LeavesNoMore, OnlyIn, Elapses};
-    ghost use Rattle.edge_memory.specs.Calls.{IsListed, Counts};
+    ghost use Rattle.edge_memory.specs.Calls.{IsListed, Counts, failing_size, next_listed};
     ghost use Rattle.edge_memory.specs.Story.{Idle, Write, Sync, with_event, recorded};
     ghost use Rattle.edge_memory.specs.StoryLaws.{seen_is_left, counts_now, only_now};
-    ghost use Rattle.edge_memory.specs.MemDisk.{seen_of, story_of, may_leave_of, moment_of, left_since_of, calls_left_of, CanWrite, calls_of};
+    ghost use Rattle.edge_memory.specs.MemDisk.{seen_of, story_of, may_leave_of, moment_of, left_since_of, calls_left_of, CanWrite, calls_of, failing_bytes, failing_sync};
 
     ghost tells = { λ _. true };
 
@@ -196,11 +252,17 @@ impl Disk for MemDisk {
         ensures story { story_of self.new ≡ recorded (calls_left_of self.old) Idle (story_of self.old) }
         ensures crash { LeavesNoMore (may_leave_of self.old) (may_leave_of self.new) }
         ensures time { Elapses moment_of left_since_of may_leave_of self.old self.new }
+        ensures part { OnErr result (buf.new ≡ take (failing_size (next_listed (calls_of self.old)) (length buf.old))
+            (drop at (bytes_of (seen_of self.old) area)) ++ drop (failing_size (next_listed (calls_of self.old)) (length buf.old)) buf.old) }
         ensures fails { IsErr result ↔ (IsListed (calls_of self.old) ⊎ (calls_left_of self.old ≡ 0)) }
         ensures counted { Counts (calls_of self.old) (calls_of self.new) result }
     {
-        self.rest()?;
         let from = at as usize;
+        let part = self.failing_size(buf.len());
+        if let Err(failed) = self.rest() {
+            buf[..part].copy_from_slice(&self.seen.area(area)[from..from + part]);
+            return Err(failed);
+        }
         buf.copy_from_slice(&self.seen.area(area)[from..from + buf.len()]);
         Ok(())
     }
@@ -210,11 +272,11 @@ impl Disk for MemDisk {
         ensures written { OnOk result (Changes area (Overwrites at bytes.now) (seen_of self.old) (seen_of self.new)) }
         ensures story { OnOk result (story_of self.new ≡ with_event (story_of self.old) (Write area at bytes.now)) }
 
-        // A listed write does its first half.
-        ensures half { CanWrite self.old (length bytes.now) → OnErr result
-            (Changes area (Overwrites at (take (length bytes.now / 2) bytes.now)) (seen_of self.old) (seen_of self.new)) }
-        ensures half_story { CanWrite self.old (length bytes.now) → OnErr result
-            (story_of self.new ≡ with_event (story_of self.old) (Write area at (take (length bytes.now / 2) bytes.now))) }
+        // A listed write does its part.
+        ensures part { CanWrite self.old (length bytes.now) → OnErr result
+            (Changes area (Overwrites at (failing_bytes self.old bytes.now)) (seen_of self.old) (seen_of self.new)) }
+        ensures part_story { CanWrite self.old (length bytes.now) → OnErr result
+            (story_of self.new ≡ with_event (story_of self.old) (Write area at (failing_bytes self.old bytes.now))) }
 
         // One past the room does nothing.
         ensures refused { ¬ CanWrite self.old (length bytes.now) → seen_of self.new ≡ seen_of self.old }
@@ -228,13 +290,14 @@ impl Disk for MemDisk {
         ensures counted { Counts (calls_of self.old) (calls_of self.new) result }
     {
         let can = self.can_write(bytes.len());
+        let part = self.failing_size(bytes.len());
         let done = self.calls.number(can);
         if !can {
             self.idle();
         } else if done.is_ok() {
             self.put(area, at as usize, bytes);
         } else {
-            self.put(area, at as usize, &bytes[..bytes.len() / 2]);
+            self.put(area, at as usize, &bytes[..part]);
         }
         done
     }
@@ -243,14 +306,17 @@ impl Disk for MemDisk {
         ensures durable { OnOk result (OnlyIn area (seen_of self.old) (may_leave_of self.new)) }
         ensures seen { seen_of self.new ≡ seen_of self.old }
         ensures story { OnOk result (story_of self.new ≡ with_event (story_of self.old) (Sync area)) }
-        ensures failed { OnErr result (story_of self.new ≡ recorded (calls_left_of self.old) Idle (story_of self.old)) }
+        ensures failed { OnErr result (story_of self.new
+            ≡ recorded (calls_left_of self.old) (failing_sync (next_listed (calls_of self.old)) area) (story_of self.old)) }
         ensures crash { LeavesNoMore (may_leave_of self.old) (may_leave_of self.new) }
         ensures time { Elapses moment_of left_since_of may_leave_of self.old self.new }
         ensures fails { IsErr result ↔ (IsListed (calls_of self.old) ⊎ (calls_left_of self.old ≡ 0)) }
         ensures counted { Counts (calls_of self.old) (calls_of self.new) result }
     {
-        let done = self.calls.number(self.log.free() > 0);
-        if done.is_ok() {
+        let can = self.log.free() > 0;
+        let all = self.calls.listed() == Some(Part::All);
+        let done = self.calls.number(can);
+        if can && (done.is_ok() || all) {
             self.settle(area);
         } else {
             self.idle();

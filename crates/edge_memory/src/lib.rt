@@ -7,6 +7,7 @@ mod call_log;
 mod calls;
 mod contents;
 mod disk;
+mod failing;
 mod no_memory;
 mod pick;
 mod sink;
@@ -15,6 +16,7 @@ mod source;
 mod tests;
 
 pub use disk::MemDisk;
+pub use failing::{FailingCall, Part};
 pub use no_memory::NoMemory;
 pub use sink::MemSink;
 pub use source::MemSource;

@@ -3,6 +3,7 @@ ghost use Rattle.std.specs.Prelude.{◌≤◌, ◌+◌, vec_len, vec_capacity};
 
 use crate::NoMemory;
 use crate::calls::Calls;
+use crate::failing::Part;
 use edge_traits::{Failed, Sink};
 use std::alloc::Global;
 
@@ -17,19 +18,20 @@ pub struct MemSink {
 
 impl MemSink {
     ghost use Rattle.std.specs.Prelude.{◌≡◌, [], IfOk};
-    ghost use Rattle.edge_memory.specs.Calls.{IsFresh};
+    ghost use Rattle.edge_memory.specs.Calls.{IsFresh, with_part};
+    ghost use Rattle.edge_memory.specs.declared.failing.Part.TheVariants.{Nothing};
     ghost use Rattle.edge_memory.specs.MemSink.{written_of, room_of, calls_of};
 
     /// An empty sink with room for so many bytes, whose calls of these numbers, from 0, fail.
     pub fn new(alloc: Global, failing: &[u64], room: usize) -> Result<Self, NoMemory>
         ensures written { IfOk result (λ sink. written_of sink ≡ []) }
         ensures room { IfOk result (λ sink. room_of sink ≡ room) }
-        ensures calls { IfOk result (λ sink. IsFresh failing.now (calls_of sink)) }
+        ensures calls { IfOk result (λ sink. IsFresh (with_part Nothing failing.now) (calls_of sink)) }
     {
         Ok(MemSink {
             bytes: Vec::with_capacity(alloc, room)?,
             room,
-            calls: Calls::new(alloc, failing)?,
+            calls: Calls::numbered(alloc, failing, Part::Nothing)?,
         })
     }
 

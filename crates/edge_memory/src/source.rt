@@ -3,6 +3,7 @@ ghost use Rattle.std.specs.Prelude.{◌≤◌, vec_len};
 
 use crate::NoMemory;
 use crate::calls::Calls;
+use crate::failing::Part;
 use edge_traits::{Failed, Source};
 use std::alloc::Global;
 
@@ -17,18 +18,19 @@ pub struct MemSource {
 
 impl MemSource {
     ghost use Rattle.std.specs.Prelude.{◌≡◌, IfOk};
-    ghost use Rattle.edge_memory.specs.Calls.{IsFresh};
+    ghost use Rattle.edge_memory.specs.Calls.{IsFresh, with_part};
+    ghost use Rattle.edge_memory.specs.declared.failing.Part.TheVariants.{Nothing};
     ghost use Rattle.edge_memory.specs.MemSource.{left_of, calls_of};
 
     /// A source with these bytes, whose calls of these numbers, from 0, fail.
     pub fn new(alloc: Global, bytes: &[u8], failing: &[u64]) -> Result<Self, NoMemory>
         ensures left { IfOk result (λ source. left_of source ≡ bytes.now) }
-        ensures calls { IfOk result (λ source. IsFresh failing.now (calls_of source)) }
+        ensures calls { IfOk result (λ source. IsFresh (with_part Nothing failing.now) (calls_of source)) }
     {
         Ok(MemSource {
             bytes: bytes.to_vec(alloc)?,
             at: 0,
-            calls: Calls::new(alloc, failing)?,
+            calls: Calls::numbered(alloc, failing, Part::Nothing)?,
         })
     }
 }

@@ -1,4 +1,4 @@
-use crate::{MemDisk, MemSink, MemSource};
+use crate::{FailingCall, MemDisk, MemSink, MemSource, Part};
 use edge_traits::{Area, Disk, Failed, Sink, Source};
 use std::alloc::Global;
 use std::test::Fail;
@@ -164,5 +164,127 @@ fn calls_past_the_record_fail(rt: HostRuntime) -> Result<(), Fail> {
         image(alloc, &disk, 4, 0, Area::Left)?.as_slice(),
         b"abcd".as_slice()
     );
+    Ok(())
+}
+
+/// What a crash left of bytes that were written past the end.
+#[derive(Clone, Copy, PartialEq, Eq)]
+enum Kind {
+    Nothing,
+    Prefix,
+    Whole,
+    Zeros,
+    OtherBytes,
+    Mix,
+}
+
+const KINDS: [Kind; 6] = [
+    Kind::Nothing,
+    Kind::Prefix,
+    Kind::Whole,
+    Kind::Zeros,
+    Kind::OtherBytes,
+    Kind::Mix,
+];
+
+fn kind_of(written: &[u8], left: &[u8]) -> Kind {
+    if left.is_empty() {
+        Kind::Nothing
+    } else if left == written {
+        Kind::Whole
+    } else if written.starts_with(left) {
+        Kind::Prefix
+    } else if left.len() < written.len() {
+        Kind::Mix
+    } else if left.iter().all(|byte| *byte == 0) {
+        Kind::Zeros
+    } else {
+        Kind::OtherBytes
+    }
+}
+
+#[test]
+fn each_kind_of_image_comes(rt: HostRuntime) -> Result<(), Fail> {
+    let alloc = rt.alloc();
+    let written = b"ABCDEFGHIJKLMNOPQRSTUVWXYZ0123456";
+    let mut disk = MemDisk::new(alloc, b"", b"", &[], 4, 33)?;
+    disk.write_at(Area::Left, 0, written)?;
+    let mut kinds = Vec::new(alloc);
+    let mut values = [false; 256];
+    for pick in 0..4096 {
+        let left = image(alloc, &disk, 1, pick, Area::Left)?;
+        kinds.push(kind_of(written, &left))?;
+        for byte in left.as_slice() {
+            values[usize::from(*byte)] = true;
+        }
+    }
+    for kind in KINDS {
+        let count = kinds.iter().filter(|found| **found == kind).count();
+        assert!(rt; count >= 50);
+    }
+    assert!(rt; values.iter().all(|has_come| *has_come));
+    Ok(())
+}
+
+#[test]
+fn a_gate_stays_or_opens_or_is_spoilt(rt: HostRuntime) -> Result<(), Fail> {
+    let alloc = rt.alloc();
+    let mut disk = MemDisk::new(alloc, b"\x00", b"", &[], 4, 1)?;
+    disk.write_at(Area::Left, 0, b"\x01")?;
+    let mut gates = Vec::new(alloc);
+    for pick in 0..4096 {
+        let left = image(alloc, &disk, 1, pick, Area::Left)?;
+        assert_eq!(rt; left.len(), 1);
+        gates.extend_from_slice(&left)?;
+    }
+    assert!(rt; gates.iter().filter(|gate| **gate == 0).count() >= 50);
+    assert!(rt; gates.iter().filter(|gate| **gate == 1).count() >= 50);
+    assert!(rt; gates.iter().filter(|gate| **gate > 1).count() >= 50);
+    Ok(())
+}
+
+fn failing(number: u64, part: Part) -> FailingCall {
+    FailingCall { number, part }
+}
+
+/// A part, and what a read and a write do of theirs.
+const PARTS: [(Part, &[u8; 4], &[u8; 4]); 3] = [
+    (Part::Nothing, b"....", b"abcd"),
+    (Part::Half, b"ab..", b"ABcd"),
+    (Part::All, b"abcd", b"ABCD"),
+];
+
+#[test]
+fn a_listed_read_or_write_does_its_part(rt: HostRuntime) -> Result<(), Fail> {
+    let alloc = rt.alloc();
+    for (part, read, written) in PARTS {
+        let list = [failing(1, part), failing(0, part)];
+        let mut disk = MemDisk::with_failing(alloc, b"abcd", b"", &list, 8, 16)?;
+        let mut buf = *b"....";
+        assert_eq!(rt; disk.read_at(Area::Left, 0, &mut buf), Err(Failed));
+        assert_eq!(rt; buf, *read);
+        assert_eq!(rt; disk.write_at(Area::Left, 0, b"ABCD"), Err(Failed));
+        let left = content(alloc, &mut disk, Area::Left)?;
+        assert_eq!(rt; left.as_slice(), written.as_slice());
+        assert_eq!(rt; disk.faults(), 2);
+    }
+    Ok(())
+}
+
+#[test]
+fn a_listed_sync_does_all_or_nothing(rt: HostRuntime) -> Result<(), Fail> {
+    let alloc = rt.alloc();
+    for (part, kept) in [
+        (Part::Nothing, b"abcd"),
+        (Part::Half, b"abcd"),
+        (Part::All, b"ABCD"),
+    ] {
+        let list = [failing(1, part)];
+        let mut disk = MemDisk::with_failing(alloc, b"abcd", b"", &list, 8, 16)?;
+        disk.write_at(Area::Left, 0, b"ABCD")?;
+        assert_eq!(rt; disk.sync(Area::Left), Err(Failed));
+        let left = image(alloc, &disk, 2, 0, Area::Left)?;
+        assert_eq!(rt; left.as_slice(), kept.as_slice());
+    }
     Ok(())
 }

@@ -2,5 +2,5 @@
 use Rattle.std.specs.Prelude.{ℕ}
 use Rattle.edge_real.specs.declared.file_disk.FileDisk.{FileDisk}
 
-abbrev pub faults_of : {R Dir : Type 0} → FileDisk R Dir → ℕ
+abbrev pub faults_of : {R File Dir : Type 0} → FileDisk R File Dir → ℕ
 faults_of disk = disk.faults.count

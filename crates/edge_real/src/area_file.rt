@@ -1,39 +1,50 @@
 //! One area of a disk as a file.
-use std::fs::{File, OpenOptions};
+use crate::OpenError;
+use crate::lock::Lock;
+use std::fs::{File, OpenFile, OpenOptions, TryLockError};
 use std::io::{self, ErrorKind};
-use std::os::unix::fs::FileExt;
+use std::os::unix::fs::{FileExt, OpenOptionsExt};
 use std::path::Path;
 use std::rt::Files;
 
-/// A file that need not be there, and stays open once it is.
+/// Its owner alone may read and write a file that is created.
+const OWNER_ONLY: u32 = 0o600;
+
+/// A file that need not be there, and stays open once it is. No other program that takes the lock has it meanwhile.
 #[derive(Drop)]
-pub struct AreaFile {
+pub struct AreaFile<F: Drop> {
     path: String,
-    held: Held,
+    held: Held<F>,
     /// Whether the folder was synced while the file was open, so that the file's name outlasts a crash.
     is_named: bool,
 }
 
 #[derive(Drop)]
-enum Held {
+enum Held<F: Drop> {
     /// No file has the name. It counts as an empty one.
     Missing,
-    Open(File),
-    /// A sync failed. The system may have let go of bytes that it could not write, and still read them.
+    /// The file is open, and its lock is taken.
+    Open(F),
+    /// A sync failed: the system may have let go of bytes that it could not write, and still read them. Or another
+    /// program took the file that this one created.
     Lost,
 }
 
-impl AreaFile {
-    /// Opens the file, unless it is missing.
-    pub fn at<R: Files<File = File>>(rt: &R, path: String) -> io::Result<AreaFile> {
+impl<F: FileExt + OpenFile + Lock + Drop> AreaFile<F> {
+    /// Opens the file and takes its lock, unless it is missing.
+    pub fn at<R: Files<File = F>>(files: &R, path: String) -> Result<AreaFile<F>, OpenError> {
         let opened = OpenOptions::new()
             .read(true)
             .write(true)
-            .open(rt, path.as_str());
+            .open(files, path.as_str());
         let held = match opened {
-            Ok(file) => Held::Open(file),
+            Ok(file) => match file.try_lock() {
+                Ok(()) => Held::Open(file),
+                Err(TryLockError::WouldBlock) => return Err(OpenError::Taken),
+                Err(TryLockError::Error(_)) => return Err(OpenError::Failed),
+            },
             Err(error) if error.kind() == ErrorKind::NotFound => Held::Missing,
-            Err(error) => return Err(error),
+            Err(_) => return Err(OpenError::Failed),
         };
         Ok(AreaFile {
             path,
@@ -60,14 +71,14 @@ impl AreaFile {
     }
 
     /// A missing file is created.
-    pub fn write_at<R: Files<File = File>>(
+    pub fn write_at<R: Files<File = F>>(
         &mut self,
-        rt: &R,
+        files: &R,
         at: u64,
         bytes: &[u8],
     ) -> io::Result<()> {
         if let Held::Missing = &self.held {
-            self.held = Held::Open(File::create_new(rt, self.path.as_str())?);
+            self.create(files)?;
         }
         match &self.held {
             Held::Open(file) => file.write_all_at(bytes, at),
@@ -75,11 +86,26 @@ impl AreaFile {
         }
     }
 
+    /// Creates the file and takes its lock. A file that another program locked first is lost.
+    fn create<R: Files<File = F>>(&mut self, files: &R) -> io::Result<()> {
+        let file = OpenOptions::new()
+            .read(true)
+            .write(true)
+            .create_new(true)
+            .mode(OWNER_ONLY)
+            .open(files, self.path.as_str())?;
+        self.held = match file.try_lock() {
+            Ok(()) => Held::Open(file),
+            Err(_) => Held::Lost,
+        };
+        Ok(())
+    }
+
     /// Once it has failed, each call on the file fails.
-    pub fn sync<R: Files<File = File>>(&mut self, rt: &R) -> io::Result<()> {
+    pub fn sync<R: Files<File = F>>(&mut self, files: &R) -> io::Result<()> {
         let synced = match &self.held {
             Held::Missing => return Ok(()),
-            Held::Open(file) => self.sync_open(rt, file),
+            Held::Open(file) => self.sync_open(files, file),
             Held::Lost => Err(lost()),
         };
         match synced {
@@ -90,12 +116,12 @@ impl AreaFile {
     }
 
     /// Syncs the file's content and length, and once its name.
-    fn sync_open<R: Files<File = File>>(&self, rt: &R, file: &File) -> io::Result<()> {
+    fn sync_open<R: Files<File = F>>(&self, files: &R, file: &F) -> io::Result<()> {
         file.sync_all()?;
         if self.is_named {
             return Ok(());
         }
-        File::open(rt, folder_of(self.path.as_str()))?.sync_all()
+        File::open(files, folder_of(self.path.as_str()))?.sync_all()
     }
 }
 

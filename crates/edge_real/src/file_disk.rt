@@ -2,32 +2,50 @@
 use crate::OpenError;
 use crate::area_file::AreaFile;
 use crate::faults::Faults;
+use crate::lock::Lock;
 use edge_traits::{Area, Disk, Failed};
-use std::fs::File;
+use std::fs::OpenFile;
+use std::os::unix::fs::FileExt;
 use std::rt::Files;
 
-/// The files `PATH.0` and `PATH.1`. A missing file is an empty area, and its first write creates it. Each error of the
-/// system is a fault; once a sync of an area has failed, each call on that area fails. No call takes memory.
+/// The files `PATH.0` and `PATH.1`, with their locks. A missing file is an empty area, and its first write creates it.
+/// Each error of the system is a fault; once a sync of an area has failed, each call on that area fails. No call takes
+/// memory.
 #[derive(Drop)]
-pub struct FileDisk<R: Files<File = File>> {
-    rt: R,
-    left: AreaFile,
-    right: AreaFile,
+pub struct FileDisk<R: Files> {
+    files: R,
+    left: AreaFile<R::File>,
+    right: AreaFile<R::File>,
     faults: Faults,
 }
 
-impl<R: Files<File = File> + AllocGlobal + Drop> FileDisk<R> {
+impl<R: Files + Drop> FileDisk<R>
+where
+    R::File: FileExt + OpenFile + Lock,
+{
     ghost use Rattle.std.specs.Prelude.{◌≡◌, IfOk};
     ghost use Rattle.edge_real.specs.FileDisk.{faults_of};
 
-    /// Opens those of the two files that are there, and creates none.
-    pub fn at(rt: R, path: &str) -> Result<Self, OpenError>
+    /// Opens those of the two files that are there, takes their locks, and creates none. `Taken` comes where another
+    /// program has the lock of one of them.
+    pub fn at(files: R, path: &str) -> Result<Self, OpenError>
+    where
+        R: AllocGlobal,
         ensures { IfOk result (λ disk. faults_of disk ≡ 0) }
     {
-        let left = AreaFile::at(&rt, format!(in rt.alloc(); "{path}.0")?)?;
-        let right = AreaFile::at(&rt, format!(in rt.alloc(); "{path}.1")?)?;
+        let left = format!(in files.alloc(); "{path}.0")?;
+        let right = format!(in files.alloc(); "{path}.1")?;
+        FileDisk::over(files, left, right)
+    }
+
+    /// The same for two paths.
+    pub(crate) fn over(files: R, left: String, right: String) -> Result<Self, OpenError>
+        ensures { IfOk result (λ disk. faults_of disk ≡ 0) }
+    {
+        let left = AreaFile::at(&files, left)?;
+        let right = AreaFile::at(&files, right)?;
         Ok(FileDisk {
-            rt,
+            files,
             left,
             right,
             faults: Faults::none(),
@@ -35,7 +53,10 @@ impl<R: Files<File = File> + AllocGlobal + Drop> FileDisk<R> {
     }
 }
 
-impl<R: Files<File = File> + Drop> Disk for FileDisk<R> {
+impl<R: Files + Drop> Disk for FileDisk<R>
+where
+    R::File: FileExt + OpenFile + Lock,
+{
     ghost use Rattle.std.specs.Prelude.{⊤, false, []};
     ghost use Rattle.edge_traits.specs.Disk.{Areas};
     ghost use Rattle.edge_real.specs.Faults.{Counts};
@@ -83,8 +104,8 @@ impl<R: Files<File = File> + Drop> Disk for FileDisk<R> {
         ensures counted { Counts (faults_of self.old) (faults_of self.new) result }
     {
         self.faults.told(match area {
-            Area::Left => self.left.write_at(&self.rt, at, bytes),
-            Area::Right => self.right.write_at(&self.rt, at, bytes),
+            Area::Left => self.left.write_at(&self.files, at, bytes),
+            Area::Right => self.right.write_at(&self.files, at, bytes),
         })
     }
 
@@ -92,8 +113,8 @@ impl<R: Files<File = File> + Drop> Disk for FileDisk<R> {
         ensures counted { Counts (faults_of self.old) (faults_of self.new) result }
     {
         self.faults.told(match area {
-            Area::Left => self.left.sync(&self.rt),
-            Area::Right => self.right.sync(&self.rt),
+            Area::Left => self.left.sync(&self.files),
+            Area::Right => self.right.sync(&self.files),
         })
     }
 
@@ -106,6 +127,7 @@ impl<R: Files<File = File> + Drop> Disk for FileDisk<R> {
 mod tests {
     use super::*;
     use std::fs;
+    use std::os::unix::fs::MetadataExt;
     use std::test::Fail;
 
     fn sent<D: Disk + Send>(disk: D) -> D {
@@ -113,7 +135,7 @@ mod tests {
     }
 
     #[test]
-    fn what_one_disk_syncs_another_reads(rt: HostRuntime) -> Result<(), Fail> {
+    fn what_one_disk_syncs_the_next_one_reads(rt: HostRuntime) -> Result<(), Fail> {
         let _ = fs::remove_dir_all(&rt, "file_disk_kept");
         fs::create_dir(&rt, "file_disk_kept")?;
         let mut disk = sent(FileDisk::at(rt, "file_disk_kept/journal")?);
@@ -126,21 +148,47 @@ mod tests {
         assert_eq!(rt; disk.sync(Area::Right), Ok(()));
         assert_eq!(rt; disk.sync(Area::Right), Ok(()));
         assert_eq!(rt; disk.len(Area::Right), Ok(9));
-        let mut other = FileDisk::at(&rt, "file_disk_kept/journal")?;
-        assert_eq!(rt; other.len(Area::Right), Ok(9));
         let mut back = [0; 4];
         assert_eq!(rt; disk.read_at(Area::Right, 1, &mut back), Ok(()));
         assert_eq!(rt; back, *b" new");
+        assert_eq!(rt; disk.faults(), 0);
+        drop(disk);
+        let mut next = FileDisk::at(&rt, "file_disk_kept/journal")?;
+        assert_eq!(rt; next.len(Area::Right), Ok(9));
         let mut back = [0; 9];
-        assert_eq!(rt; other.read_at(Area::Right, 0, &mut back), Ok(()));
+        assert_eq!(rt; next.read_at(Area::Right, 0, &mut back), Ok(()));
         assert_eq!(rt; back, *b"a new one");
-        assert_eq!(rt; (disk.faults(), other.faults()), (0, 0));
+        assert_eq!(rt; next.faults(), 0);
         assert!(rt; !fs::exists(&rt, "file_disk_kept/journal.0")?);
         assert_eq!(rt;
             fs::read(&rt, "file_disk_kept/journal.1")?.as_slice(),
             b"a new one".as_slice()
         );
         fs::remove_dir_all(&rt, "file_disk_kept")?;
+        Ok(())
+    }
+
+    #[test]
+    fn one_disk_at_a_time_has_the_files(rt: HostRuntime) -> Result<(), Fail> {
+        let _ = fs::remove_dir_all(&rt, "file_disk_taken");
+        fs::create_dir(&rt, "file_disk_taken")?;
+        let mut disk = FileDisk::at(rt, "file_disk_taken/journal")?;
+        let mut other = FileDisk::at(rt, "file_disk_taken/journal")?;
+        assert_eq!(rt; disk.write_at(Area::Right, 0, b"a"), Ok(()));
+        assert_eq!(rt; other.write_at(Area::Right, 0, b"b"), Err(Failed));
+        let mode = fs::metadata(&rt, "file_disk_taken/journal.1")?.mode();
+        assert_eq!(rt; mode & 0o777, 0o600);
+        assert!(rt;
+            matches!(
+                FileDisk::at(rt, "file_disk_taken/journal"),
+                Err(OpenError::Taken)
+            )
+        );
+        drop(disk);
+        drop(other);
+        let mut next = FileDisk::at(rt, "file_disk_taken/journal")?;
+        assert_eq!(rt; next.len(Area::Right), Ok(1));
+        fs::remove_dir_all(&rt, "file_disk_taken")?;
         Ok(())
     }
 

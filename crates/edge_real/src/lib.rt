@@ -4,13 +4,19 @@
 #![tactic(auto)]
 
 mod area_file;
+#[cfg(test)]
+mod fake_files;
 mod faults;
 mod file_disk;
+mod lock;
 mod open_error;
 mod stdin;
 mod stdout;
+#[cfg(test)]
+mod tests;
 
 pub use file_disk::FileDisk;
+pub use lock::Lock;
 pub use open_error::OpenError;
 pub use stdin::StdSource;
 pub use stdout::StdSink;

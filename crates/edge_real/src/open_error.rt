@@ -1,9 +1,8 @@
 //! Why a device of the system could not be opened.
 ghost use Rattle.std.specs.Prelude.{◌≡◌};
-ghost use Rattle.edge_real.specs.declared.open_error.OpenError.TheVariants.{Failed, NoMemory};
+ghost use Rattle.edge_real.specs.declared.open_error.OpenError.TheVariants.{NoMemory};
 
 use std::alloc::AllocError;
-use std::io;
 use thiserror::Error;
 
 #[derive(Clone, Copy, Debug, PartialEq, Eq, Error)]
@@ -11,6 +10,9 @@ pub enum OpenError {
     /// The system refused to open the device.
     #[error("the device failed")]
     Failed,
+    /// Another program has the device.
+    #[error("another program has the device open")]
+    Taken,
     #[error("out of memory")]
     NoMemory,
 }
@@ -20,13 +22,5 @@ impl From<AllocError> for OpenError {
 
     fn from(_error: AllocError) -> OpenError {
         OpenError::NoMemory
-    }
-}
-
-impl From<io::Error> for OpenError {
-    ghost from_gives = { λ _ error. error ≡ Failed };
-
-    fn from(_error: io::Error) -> OpenError {
-        OpenError::Failed
     }
 }

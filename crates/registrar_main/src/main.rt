@@ -28,7 +28,7 @@ const JOURNAL: &str = "journal";
 
 const VERSION: &str = "registrar 0.1.0\n";
 
-/// The words behind the program's name.
+/// The words after the program's name.
 fn words_of(rt: &HostRuntime) -> io::Result<Vec<String>> {
     let mut words = Vec::new(rt.alloc());
     for word in env::args(rt)?.skip(1) {
@@ -50,6 +50,10 @@ fn run_words(rt: &HostRuntime, words: &[String]) -> Status {
     let disk = match FileDisk::at(*rt, JOURNAL) {
         Ok(disk) => disk,
         Err(OpenError::Failed) => return Status::DiskFault(1),
+        Err(OpenError::Taken) => {
+            let _ = eprintln!(rt; "another program has the journal open");
+            return Status::DiskFault(1);
+        }
         Err(OpenError::NoMemory) => return Status::NoMemory,
     };
     let (_disk, status) = run(

@@ -1,4 +1,4 @@
-use Rattle.std.proofs.Common.{◌/◌, length, take, arith}
+use Rattle.std.proofs.Common.{length, take, arith}
 use Rattle.std.proofs.lemmas.List.{length-take}
 use Rattle.edge_memory.specs.MemDisk.{seen_of, story_of, calls_left_of}
 use Rattle.edge_memory.specs.Story.{Write}
@@ -25,15 +25,15 @@ returns-then-is_ok-clause-time c =
 pub returns-else-is_ok-clause-failed : goal.returns-else-is_ok-clause-failed
 returns-else-is_ok-clause-failed c =
     let bytes = c.args.bytes.now in
-    let half = take (length bytes / 2) bytes in
-    on_err c.number-done.result (part_torn c.args.area c.args.at (length bytes) half (seen_of c.args.self.now) (seen_of c.put-else-is_ok.new.self) (omega (arith, length-take (length bytes / 2) bytes)) c.requires c.put-else-is_ok.ensures.seen)
+    let part = take c.failing_size-part.result bytes in
+    on_err c.number-done.result (part_torn c.args.area c.args.at (length bytes) part (seen_of c.args.self.now) (seen_of c.put-else-is_ok.new.self) (omega (arith, length-take c.failing_size-part.result bytes)) c.requires c.put-else-is_ok.ensures.seen)
 
 pub returns-else-is_ok-clause-crash : goal.returns-else-is_ok-clause-crash
 returns-else-is_ok-clause-crash c =
     let bytes = c.args.bytes.now in
-    let half = take (length bytes / 2) bytes in
-    torn_follows (story_of c.args.self.now) (story_of c.put-else-is_ok.new.self) c.args.area c.args.at (length bytes) half (omega (arith, length-take (length bytes / 2) bytes)) c.put-else-is_ok.ensures.story
+    let part = take c.failing_size-part.result bytes in
+    torn_follows (story_of c.args.self.now) (story_of c.put-else-is_ok.new.self) c.args.area c.args.at (length bytes) part (omega (arith, length-take c.failing_size-part.result bytes)) c.put-else-is_ok.ensures.story
 
 pub returns-else-is_ok-clause-time : goal.returns-else-is_ok-clause-time
 returns-else-is_ok-clause-time c =
-    went_on c.args.self.now c.put-else-is_ok.new.self (Write c.args.area c.args.at (take (length c.args.bytes.now / 2) c.args.bytes.now)) c.put-else-is_ok.ensures.story
+    went_on c.args.self.now c.put-else-is_ok.new.self (Write c.args.area c.args.at (take c.failing_size-part.result c.args.bytes.now)) c.put-else-is_ok.ensures.story
