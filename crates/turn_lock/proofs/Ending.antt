@@ -15,7 +15,7 @@ use Rattle.turn_lock.specs.Rule.{number_times, place_times, passes_of, IsSlot, I
 use Rattle.seat_sums.specs.Counts.{times, once_within, total}
 use Rattle.turn_lock.specs.Locks.{LockView, PassView}
 use Rattle.turn_lock.specs.Seated.{IsLast, IsClosing, returned_pass, passes_back}
-use Rattle.turn_lock.specs.Ends.{own_over, places_over, Among, EndsWith, IsReported}
+use Rattle.turn_lock.specs.History.{own_over, places_over, Among, EndsWith, IsReported}
 use Rattle.turn_lock.proofs.ListLemmas.{Each-front, Each-back, All_from_Each}
 use Rattle.seat_sums.proofs.Sums.{parts_of_total, total-whole}
 use Rattle.turn_lock.proofs.Growth.{each_to_last, opening_to_last}

@@ -6,7 +6,7 @@ pub mod DrawStep
 pub mod LookStep
 pub mod AdvanceStep
 pub mod LeaveStep
-pub mod NudgeStep
+pub mod WakeStep
 pub mod PassSteps
 pub mod ShareSteps
 pub mod Sharing

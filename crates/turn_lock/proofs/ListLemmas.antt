@@ -1,11 +1,11 @@
--- How often a number stands in a list, beginnings of lists, and facts of each element.
-use Rattle.std.proofs.Common.{◌≡◌, ℕ, zero, suc, ◌+◌, ◌-◌, List, [], ◌∷◌, ◌++◌, All, length, set, refl, sym, ap, ◌∙◌, subst, arith, length-append, append_assoc}
+-- How often a number occurs in a list, prefixes of lists, and facts of each element.
+use Rattle.std.proofs.Common.{◌≡◌, ℕ, zero, suc, ◌+◌, ◌-◌, List, [], ◌∷◌, ◌++◌, All, length, map, set, refl, sym, ap, ◌∙◌, subst, arith, length-append, append_assoc}
 use mathlib.Core.List.{IsPrefix}
 use mathlib.Core.Option.{some, some-ne-none}
 use lib.ListN.{get_elem?}
 use Rattle.std.proofs.lemmas.Bool.Decides.{nat_tests}
 use Rattle.std.proofs.lemmas.List.{map-append}
-use Rattle.std.proofs.lemmas.List.Elements.{All-nil, All-cons}
+use Rattle.std.proofs.lemmas.List.Elements.{All-nil, All-cons, All-head, All-tail}
 use Rattle.turn_lock.specs.declared.rule.Addition.{Addition}
 use Rattle.turn_lock.specs.Views.{run, numbers_of, places_of}
 use Rattle.turn_lock.specs.Report.{Report, Each}
@@ -81,3 +81,16 @@ module _ {X : Type 0} where
   here_after [] i a b at = absurd (some-ne-none a (sym at))
   here_after (x ∷ xs) zero a b at = refl
   here_after (x ∷ xs) (suc i) a b at = here_after xs i a b at
+
+-- what holds of each element of a mapped list
+pub All-unmap : {X Y : Type 0} (P : Y → Type 0) (f : X → Y) (xs : List X) → All P (map f xs) → All (λ x. P (f x)) xs
+All-unmap P f [] h = All-nil (λ x. P (f x))
+All-unmap P f (x ∷ xs) h = All-cons (λ y. P (f y)) x xs (All-head P (f x) (map f xs) h) (All-unmap P f xs (All-tail P (f x) (map f xs) h))
+
+-- a loop that moves the last of these elements into a list, by what `pop` leaves
+pub map-pop : {X Y : Type 0} (f : X → Y) (xs left : List X) (x : X) (back all : List Y) → xs ≡ left ++ x ∷ [] → map f xs ++ back ≡ all → map f left ++ f x ∷ back ≡ all
+map-pop f xs left x back all cut is =
+    sym (append_assoc (map f left) (f x ∷ []) back)
+    ∙ ap (λ l. l ++ back) (sym (map-append f left (x ∷ [])))
+    ∙ ap (λ l. map f l ++ back) (sym cut)
+    ∙ is

@@ -9,7 +9,7 @@ use Rattle.turn_lock.specs.Views.{numbers_of}
 use Rattle.turn_lock.specs.Rule.{IsAdded}
 use Rattle.seat_sums.specs.Counts.{times}
 use Rattle.turn_lock.specs.Locks.{PassView}
-use Rattle.turn_lock.specs.Ends.{own_over, AtTwoPlaces, RaiseApart, ComesBefore, IsOrdered, IsReported}
+use Rattle.turn_lock.specs.History.{own_over, AtTwoPlaces, RaiseApart, ComesBefore, IsOrdered, IsReported}
 use Rattle.turn_lock.proofs.ListLemmas.{numbers_of-append, Each-back}
 use Rattle.turn_lock.proofs.Growth.{follows_itself}
 use Rattle.seat_sums.proofs.Times.{times-append, times-self, once_within-at_most_one}
@@ -31,7 +31,7 @@ module _ {V : Type 0} where
       let Q : PassView V → Type 0 = λ (p : PassView V). All P p.own in
       All-append P pass.own (own_over passes) (All-head Q pass passes h) (each_owned P passes (All-tail Q pass passes h))
 
-  -- a number that stands once isn't that of two additions
+  -- a number that occurs once isn't that of two additions
   two_numbers : (own : List (Addition V)) (a b : Addition V) → AtTwoPlaces own a b → ((n : ℕ) → times n (numbers_of own) ≤ 1) → a.report ≢ b.report
   two_numbers own a b at once same =
       let n : ℕ = a.report in

@@ -12,7 +12,7 @@ use Rattle.std.specs.contracts.snapshot.Snapshot as snapshot
 use Rattle.turn_lock.specs.declared.reports.Reports.{Ghosts}
 use Rattle.turn_lock.specs.contracts.rule.View as known
 use Rattle.turn_lock.specs.contracts.rule.Start as start
-use Rattle.turn_lock.specs.contracts.pass.Notes as notes
+use Rattle.turn_lock.specs.contracts.pass.LocalState as local
 use Rattle.turn_lock.specs.contracts.lock.TurnLock as lock
 use Rattle.turn_lock.specs.contracts.lock.TurnLock.TheInside as whole
 use Rattle.turn_lock.specs.contracts.pass.Pass as pass
@@ -28,7 +28,7 @@ pub pass_send : (V Item Origin : RattleType) (g : Ghosts V.Denot Item.Denot Orig
 pass_send V Item Origin g s =
     let place = seat.the_send (option.the_row V) (known.the_row V) (option_send V s) in
     let start = snapshot_send (start.the_row V) in
-    view_send _ _ _ _ _ (recorded_send (inside.the_field V Item Origin g).row _ _ (inside.the_type V Item Origin g).to_one (struct_send (shape (inside.the_type V Item Origin g)) (place, (struct_send (shape (notes.the_type V)) (start, (search sendable depth 6, tt)), tt))))
+    view_send _ _ _ _ _ (recorded_send (inside.the_field V Item Origin g).row _ _ (inside.the_type V Item Origin g).to_one (struct_send (shape (inside.the_type V Item Origin g)) (place, (struct_send (shape (local.the_type V)) (start, (search sendable depth 6, tt)), tt))))
 
 -- A lock may be shared among threads where its value may go to another thread.
 pub lock_sync : (V Item Origin : RattleType) (g : Ghosts V.Denot Item.Denot Origin.Denot) → IsSend V → IsSync (lock.the_row V Item Origin g)

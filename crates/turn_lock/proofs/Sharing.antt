@@ -18,7 +18,7 @@ last_or-snoc opening (y ∷ xs) x = last_or-snoc y xs x
 pub prefix_length : {X : Type 0} (xs ys : List X) → IsPrefix xs ys → length xs ≤ length ys
 prefix_length xs ys p = omega (arith, length-append xs p.0, ap length p.1)
 
--- of two beginnings of one list the shorter begins the longer
+-- of two prefixes of one list the shorter is a prefix of the longer
 shorter_prefix : {X : Type 0} (xs ys : List X) (p q : List X) → xs ++ p ≡ ys ++ q → length xs ≤ length ys → IsPrefix xs ys
 shorter_prefix [] ys p q same short = (ys, refl)
 shorter_prefix (x ∷ xs) [] p q same short = absurd (omega arith)
@@ -30,7 +30,7 @@ shorter_prefix (x ∷ xs) (y ∷ ys) p q same short =
 shorter_begins : {X : Type 0} (xs ys all : List X) → IsPrefix xs all → IsPrefix ys all → length xs ≤ length ys → IsPrefix xs ys
 shorter_begins xs ys all p q short = shorter_prefix xs ys p.0 q.0 (p.1 ∙ sym q.1) short
 
--- the longer of two beginnings of one list
+-- the longer of two prefixes of one list
 record Longer {X : Type 0} (xs ys zs : List X) : Type 0 where
   one : IsPrefix xs zs
   other : IsPrefix ys zs
@@ -53,7 +53,7 @@ module _ {V I O : Type 0} (report : V → Report I) (origin : V → O) where
   IsGrowing-front [] ys g = tt
   IsGrowing-front (x ∷ xs) ys g = (Each-front (MayFollow report origin x) xs ys g.0, IsGrowing-front xs ys g.1)
 
-  -- the last value of a list may follow the last one of each beginning of it
+  -- the last value of a list may follow the last one of each prefix of it
   last_follows : (xs zs : List V) (x z : V) → IsLast xs x → IsLast zs z → IsPrefix xs zs → IsGrowing report origin zs → MayFollow report origin x z
   last_follows xs zs x z last end p g =
       let P : V → Type 0 = λ v. MayFollow report origin v z in

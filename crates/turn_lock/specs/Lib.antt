@@ -2,7 +2,8 @@ pub mod Report
 pub mod Views
 pub mod Rule
 pub mod Locks
-pub mod Ends
+pub mod History
 pub mod Seated
 pub mod Numbers
 pub mod Press
+pub mod Copying

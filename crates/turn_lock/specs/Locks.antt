@@ -1,5 +1,5 @@
 -- A lock, a pass, a holding and a closing as callers see them.
-use Rattle.std.specs.Prelude.{ℕ, Bool, true, false, List, [], ◌∷◌, ◌++◌}
+use Rattle.std.specs.Prelude.{◌≡◌, ℕ, Bool, true, false, List, [], ◌∷◌, ◌++◌}
 use Rattle.atomic_table.specs.Seated.{TableId}
 use Rattle.turn_lock.specs.declared.rule.Addition.{Addition}
 use Rattle.turn_lock.specs.Views.{addition, numbers_of}
@@ -42,6 +42,11 @@ with_turn pass found = record { lock = pass.lock; seen = found; own = pass.own; 
 -- a pass whose holding found what the pass saw last, and left this value: it owns the report of that number
 abbrev pub with_report : {V : Type 0} → PassView V → ℕ → V → PassView V
 with_report pass number value = record { lock = pass.lock; seen = value; own = pass.own ++ addition number pass.seen value ∷ []; has_turn = false }
+
+-- the pass had one turn, which found the one value and left the other
+pub record HadTurn {V : Type 0} (before : PassView V) (found left : V) (after : PassView V) : Type 0 where
+  pub number : ℕ
+  pub after_is : after ≡ with_report (with_turn before found) number left
 
 -- the same pass, which saw this value last
 abbrev pub with_seen : {V : Type 0} → PassView V → V → PassView V

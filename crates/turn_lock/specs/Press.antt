@@ -1,4 +1,4 @@
--- A copy of the beginning of a list, as callers see it.
+-- A copy of a prefix of a list, as callers see it.
 use Rattle.std.specs.Prelude.{ℕ, List}
 use Rattle.turn_lock.specs.declared.numbers.Numbers.{Numbers}
 use Rattle.turn_lock.specs.Report.{Report}

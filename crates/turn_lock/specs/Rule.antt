@@ -1,4 +1,4 @@
--- The rule of the lock: what stands of its words, its slot and all views between any two steps.
+-- The rule of the lock: what holds of its words, its slot and all views between any two steps.
 use Rattle.std.specs.Prelude.{◌≡◌, ℕ, ◌+◌, ◌*◌, ◌^◌, ◌≤◌, true, false, List, [], ◌∷◌, ◌++◌, Option, Some, length, slice_index}
 use mathlib.Core.Option as home
 use mathlib.Core.List.{IsPrefix}
@@ -34,7 +34,7 @@ module _ {V : Type 0} where
   abbrev pub passes_of : View V → ℕ
   passes_of v = v.passes
 
-  -- over all views, each number from `from` to below `to` stands once, and no other stands at all
+  -- over all views, each number from `from` to below `to` occurs once, and no other occurs
   abbrev pub OnceEach : (ℕ → View V → ℕ) → ℕ → ℕ → List (View V) → Type 0
   OnceEach times_in from to views = (x : ℕ) → total (times_in x) views ≡ once_within from to x
 
@@ -79,7 +79,7 @@ module _ {V : Type 0} where
       pub few : passes ≤ 65535
       pub fits : (id : ℕ) (v : View V) → get_elem? views id ≡ home.some v → Fits turn (before ++ last ∷ []) v
 
-    -- the words are the ticket word, the turn word, the count word, and one for each pass to sleep on
+    -- the words are the ticket word, the turn word, the count word, and one for each pass to park on
     pub record IsKept (passes : ℕ) (opening : V) (s : State (Option V) (View V)) : Type 0 where
       pub before : List V
       pub last : V

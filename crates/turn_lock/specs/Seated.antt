@@ -8,7 +8,7 @@ use Rattle.turn_lock.specs.declared.rule.Start.{Start}
 use Rattle.turn_lock.specs.Locks.{LockView, PassView}
 use Rattle.turn_lock.specs.Report.{Report, Each, MayFollow}
 use Rattle.turn_lock.specs.Views.{addition, numbers_of, last_or, with_ticket, at_turn, with_value, without_ticket}
-use Rattle.turn_lock.specs.Ends.{own_over}
+use Rattle.turn_lock.specs.History.{own_over}
 
 -- three words, one more for each pass, and the slot
 abbrev pub IsLaid : TableId → ℕ → Type 0

@@ -108,7 +108,7 @@ module _ {V : Type 0} where
     Reported at before number after = (earlier : List V) (found value : V) → before.0.seen ≡ earlier ++ found ∷ [] → before.1 ≡ (0, Some value) ∷ []
         → (after ≡ (with_value before.0 value (addition number found value), before.1)) × (1 ≤ number) × All (λ n. n < number) (numbers_of before.0.own)
 
-    -- the lists that the seat knows of are the beginnings of one list, in which each value follows each before it. One that has the turn has seen it whole
+    -- the lists that the seat knows of are prefixes of one list, in which each value follows each before it. One that has the turn has seen it whole
     pub record IsOne (v : View V) : Type 0 where
       pub all : List V
       pub growing : IsGrowing report origin all

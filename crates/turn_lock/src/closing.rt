@@ -4,21 +4,21 @@ ghost use Rattle.turn_lock.specs.Report.{GrowsTo};
 ghost use Rattle.seat_sums.specs.Counts.{times, once_within};
 ghost use Rattle.turn_lock.specs.Views.{spent_view, both_views};
 ghost use Rattle.turn_lock.specs.Seated.{IsLaid};
-ghost use Rattle.turn_lock.specs.Ends.{EndsWith, IsReported, places_over};
+ghost use Rattle.turn_lock.specs.History.{EndsWith, IsReported, places_over};
 ghost use Rattle.turn_lock.specs.Locks.{with_pass};
 
 use crate::lock::Table;
-use crate::pass::{Pass, Place};
+use crate::pass::{Pass, Seat};
 use crate::reports::Reports;
 use crate::rule::{Come, Together};
-use crate::steps::Board;
+use crate::steps::Words;
 use std::marker::Model;
 
 /// A lock that nobody takes any more. It takes back its passes one by one, and needs no memory for it.
 #[derive(Drop)]
 pub struct Closing<V: Reports> {
     pub(crate) table: Table<V>,
-    pub(crate) place: Place<V>,
+    pub(crate) seat: Seat<V>,
     pub(crate) passes: u32,
 }
 
@@ -30,9 +30,9 @@ impl<V: Reports> Model for Closing<V> {
 
     ghost use Rattle.turn_lock.specs.Seated.{IsLaid, IsClosing, lock_of, passes_back};
 
-    ghost view = { λ c. record { lock = lock_of c.table.shared.table_id c.table.shared.key; passes = passes_back (lock_of c.table.shared.table_id c.table.shared.key) c.place.me.0 } };
+    ghost view = { λ c. record { lock = lock_of c.table.shared.table_id c.table.shared.key; passes = passes_back (lock_of c.table.shared.table_id c.table.shared.key) c.seat.me.0 } };
 
-    ghost invariant = { λ c. (c.passes ≡ c.table.shared.key.passes) × (1 ≤ c.passes) × IsLaid c.table.shared.table_id c.passes × (c.place.table_id ≡ c.table.shared.table_id) × IsClosing (lock_of c.table.shared.table_id c.table.shared.key) c.place.me };
+    ghost invariant = { λ c. (c.passes ≡ c.table.shared.key.passes) × (1 ≤ c.passes) × IsLaid c.table.shared.table_id c.passes × (c.seat.table_id ≡ c.table.shared.table_id) × IsClosing (lock_of c.table.shared.table_id c.table.shared.key) c.seat.me };
 }
 
 impl<V: Reports> Closing<V> {
@@ -44,13 +44,13 @@ impl<V: Reports> Closing<V> {
     {
         let Closing {
             table,
-            mut place,
+            mut seat,
             passes,
         } = self;
-        hand_in(&table.shared, &mut place, pass.place);
+        hand_in(&table.shared, &mut seat, pass.seat);
         Closing {
             table,
-            place,
+            seat,
             passes,
         }
     }
@@ -66,43 +66,43 @@ impl<V: Reports> Closing<V> {
     {
         let Closing {
             table,
-            place,
+            seat,
             passes: _,
         } = self;
-        take_out(table, place)
+        take_out(table, seat)
     }
 }
 
 /// A seat that stands for no pass.
-pub(crate) fn new_place<V: Reports>(board: &Board<V>) -> Place<V>
-    requires laid { IsLaid board.now.table_id board.now.key.passes }
-    ensures table { result.table_id ≡ board.now.table_id }
+pub(crate) fn new_seat<V: Reports>(words: &Words<V>) -> Seat<V>
+    requires laid { IsLaid words.now.table_id words.now.key.passes }
+    ensures table { result.table_id ≡ words.now.table_id }
     ensures me { result.me ≡ (spent_view, []) }
 {
-    let (_, place) = board.load_new_seat::<Come>(0);
-    place
+    let (_, seat) = words.load_new_seat::<Come>(0);
+    seat
 }
 
 /// Takes in the seat of a pass.
-fn hand_in<V: Reports>(board: &Board<V>, place: &mut Place<V>, other: Place<V>)
-    requires tables { (place.old.table_id ≡ board.now.table_id) × (other.table_id ≡ board.now.table_id) }
-    requires laid { IsLaid board.now.table_id board.now.key.passes }
-    requires place { (place.old.me.0.tickets ≡ []) × (place.old.me.0.turn ≡ false) }
+fn hand_in<V: Reports>(words: &Words<V>, seat: &mut Seat<V>, other: Seat<V>)
+    requires tables { (seat.old.table_id ≡ words.now.table_id) × (other.table_id ≡ words.now.table_id) }
+    requires laid { IsLaid words.now.table_id words.now.key.passes }
+    requires seat { (seat.old.me.0.tickets ≡ []) × (seat.old.me.0.turn ≡ false) }
     requires other { (other.me.0.tickets ≡ []) × (other.me.0.turn ≡ false) × (other.me.1 ≡ []) }
-    ensures table { place.new.table_id ≡ place.old.table_id }
-    ensures me { place.new.me ≡ (both_views place.old.me.0 other.me.0, place.old.me.1) }
+    ensures table { seat.new.table_id ≡ seat.old.table_id }
+    ensures me { seat.new.me ≡ (both_views seat.old.me.0 other.me.0, seat.old.me.1) }
 {
-    board.join_seat::<Together>(place, other);
+    words.join_seat::<Together>(seat, other);
 }
 
 /// Takes the value out of a table whose passes are one seat.
-fn take_out<V: Reports>(table: Table<V>, place: Place<V>) -> V
-    requires seat { place.table_id ≡ table.shared.table_id }
+fn take_out<V: Reports>(table: Table<V>, seat: Seat<V>) -> V
+    requires seat { seat.table_id ≡ table.shared.table_id }
     requires laid { IsLaid table.shared.table_id table.shared.key.passes }
-    requires all { (place.me.0.passes ≡ table.shared.key.passes) × (place.me.0.turn ≡ false) × (place.me.0.tickets ≡ []) }
-    ensures { EndsWith V.report V.origin table.shared.key.opening.value result place.me.0 }
+    requires all { (seat.me.0.passes ≡ table.shared.key.passes) × (seat.me.0.turn ≡ false) × (seat.me.0.tickets ≡ []) }
+    ensures { EndsWith V.report V.origin table.shared.key.opening.value result seat.me.0 }
 {
-    let mut closed = table.close_with(place);
+    let mut closed = table.close_with(seat);
     let value = closed.take(0).unwrap();
     closed.free();
     value

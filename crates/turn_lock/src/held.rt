@@ -34,6 +34,6 @@ impl<'a, V: Reports> Held<'a, V> {
         ensures { (number : ℕ) × (pass.new ≡ with_report pass.old number self.entry.value) × (1 ≤ number) × All (λ n. n < number) (numbers_in pass.old) }
     {
         let Held { lock, value } = self;
-        end_turn(&lock.table.shared, &mut pass.place, value, lock.passes);
+        end_turn(&lock.table.shared, &mut pass.seat, value, lock.passes);
     }
 }

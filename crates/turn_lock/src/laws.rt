@@ -1,7 +1,7 @@
 //! What the additions of a lock's passes say of one another.
 ghost use Rattle.std.specs.Prelude.{List};
 ghost use Rattle.turn_lock.specs.Locks.{PassView};
-ghost use Rattle.turn_lock.specs.Ends.{IsReported, IsOrdered, RaiseApart, own_over};
+ghost use Rattle.turn_lock.specs.History.{IsReported, IsOrdered, RaiseApart, own_over};
 
 use crate::reports::Reports;
 

@@ -1,15 +1,18 @@
-// A lock by turns for one value, whose holders know what came before them.
-// It promises the layer above that who takes the lock finds a value that follows all that its pass has seen, that each report, with
-// the values found and left, is one pass's, and that passes share what they saw. Definitions: specs/ Report, Locks, Rule, Ends.
+// A ticket lock, first come first served, for one value. Each holder knows what came before.
+// It promises the layer above:
+// - who takes the lock finds a value that follows all that its pass has seen;
+// - each report belongs to one pass, with the values that its holding found and left;
+// - two passes can share what they have seen.
+// Definitions: specs/ Report, Locks, Rule, History.
 #![tactic(auto)]
 
 mod closing;
 mod faults;
 mod held;
+mod held_value;
 mod laws;
-mod lends;
 mod lock;
-mod makes;
+mod new_table;
 mod numbers;
 mod pass;
 mod press;

@@ -4,16 +4,16 @@ ghost use mathlib.Core.Logic.{◌⊎◌};
 ghost use Rattle.turn_lock.specs.Report.{GrowsTo};
 ghost use Rattle.seat_sums.specs.Counts.{times, once_within};
 ghost use Rattle.turn_lock.specs.Locks.{new_pass, with_turn, with_seen};
-ghost use Rattle.turn_lock.specs.Ends.{IsReported, places_over};
+ghost use Rattle.turn_lock.specs.History.{IsReported, places_over};
 
-use crate::closing::{Closing, new_place};
+use crate::closing::{Closing, new_seat};
 use crate::faults::NoMemory;
 use crate::held::Held;
-use crate::makes::make_board;
+use crate::new_table::make_table;
 use crate::pass::Pass;
 use crate::reports::Reports;
 use crate::rule::{ByTurns, Start, View};
-use crate::steps::{share_seen, take_turn, wait_for_turns};
+use crate::steps::{block_without_turns, share_seen, take_turn};
 use std::alloc::Global;
 use std::marker::Model;
 use std::sync::Wait;
@@ -41,7 +41,7 @@ impl<V: Reports> Model for TurnLock<V> {
 }
 
 impl<V: Reports> TurnLock<V> {
-    /// A lock over the value, and so many passes, each of which has seen the value as it is and owns nothing.
+    /// A lock over the value, and this number of passes. Each pass has seen the value as it is, and owns nothing.
     pub fn make(
         alloc: Global,
         value: V,
@@ -52,11 +52,11 @@ impl<V: Reports> TurnLock<V> {
         ensures passes { IfOk result (λ made. made.1.items ≡ replicate passes (new_pass made.0)) }
         ensures value { IfErr result (λ refused. refused.0 ≡ value) }
     {
-        let (table, dealt) = make_board(alloc, value, passes)?;
-        Ok((TurnLock { table, passes }, dealt))
+        let (table, all) = make_table(alloc, value, passes)?;
+        Ok((TurnLock { table, passes }, all))
     }
 
-    /// Waits for the pass's turn, and gives the value. It may wait for ever, and does after 2^47 turns of one pass.
+    /// Blocks until the pass's turn, and gives the value. It may block for ever, and does after 2^47 turns of one pass.
     pub fn take<R: Wait>(&self, rt: &R, pass: &mut Pass<V>) -> Held<'_, V>
         requires lock { pass.old.lock ≡ self.now }
         requires ended { pass.old.has_turn ≡ false }
@@ -65,9 +65,9 @@ impl<V: Reports> TurnLock<V> {
         ensures grown { GrowsTo (V.report pass.old.seen) (V.report result.value) }
         ensures origin { V.origin result.value ≡ V.origin self.now.opening }
     {
-        wait_for_turns(rt, pass.notes.turns);
-        let value = take_turn(rt, &self.table.shared, &mut pass.place, self.passes);
-        pass.notes.turns += 1;
+        block_without_turns(rt, pass.local.turns);
+        let value = take_turn(rt, &self.table.shared, &mut pass.seat, self.passes);
+        pass.local.turns += 1;
         Held { lock: self, value }
     }
 
@@ -82,7 +82,7 @@ impl<V: Reports> TurnLock<V> {
         ensures turn { one.old.has_turn ≡ true → one.new.seen ≡ one.old.seen }
         ensures grown { GrowsTo (V.report one.old.seen) (V.report one.new.seen) × GrowsTo (V.report other.old.seen) (V.report one.new.seen) }
     {
-        share_seen(&self.table.shared, &mut one.place, &mut other.place);
+        share_seen(&self.table.shared, &mut one.seat, &mut other.seat);
     }
 
     /// Begins the end of the lock, which then takes its passes back one by one.
@@ -91,10 +91,10 @@ impl<V: Reports> TurnLock<V> {
         ensures passes { result.passes ≡ [] }
     {
         let TurnLock { table, passes } = self;
-        let place = new_place(&table.shared);
+        let seat = new_seat(&table.shared);
         Closing {
             table,
-            place,
+            seat,
             passes,
         }
     }

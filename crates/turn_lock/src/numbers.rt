@@ -1,7 +1,9 @@
 //! A list of numbers under the lock: the smallest use, on which each call is shown.
-ghost use Rattle.std.specs.Prelude.{◌≡◌, ◌++◌, ◌∷◌, [], ◌≤◌, All, IfOk, IfSome, MatchBool, false, length};
+ghost use Rattle.std.specs.Prelude.{◌≡◌, ℕ, ◌+◌, ◌-◌, ◌^◌, ◌++◌, ◌∷◌, [], ◌≤◌, All, IfOk, IfSome, MatchOption, false, length, max, min, vec_capacity};
 ghost use Rattle.turn_lock.specs.Report.{GrowsTo};
-ghost use Rattle.turn_lock.specs.Numbers.{report_of, OwnsNumber};
+ghost use Rattle.turn_lock.specs.History.{IsReported, places_over};
+ghost use Rattle.turn_lock.specs.Numbers.{report_of, name_of, IsLastAt, AddedOne};
+ghost use Rattle.seat_sums.specs.Counts.{times, once_within};
 
 use crate::faults::NoMemory;
 use crate::lock::TurnLock;
@@ -24,17 +26,19 @@ impl Reports for Numbers {
 
     type Origin = u64;
 
-    ghost use Rattle.turn_lock.specs.Numbers.{report_of};
+    ghost use Rattle.turn_lock.specs.Numbers.{report_of, name_of};
 
     ghost report = { report_of };
 
-    ghost origin = { λ numbers. numbers.name };
+    ghost origin = { name_of };
 }
 
 impl Numbers {
-    /// No numbers, with room for so many.
+    /// No numbers, with room for this many.
     pub fn new(alloc: Global, name: u64, room: usize) -> Result<Numbers, NoMemory>
         ensures empty { IfOk result (λ numbers. numbers.items.items ≡ []) }
+        ensures room { IfOk result (λ numbers. room ≤ vec_capacity numbers.items) }
+        ensures none { IfOk result (λ numbers. (numbers.tries ≡ 0) × (numbers.most ≡ 0)) }
         ensures name { IfOk result (λ numbers. numbers.name ≡ name) }
     {
         Ok(Numbers {
@@ -45,16 +49,20 @@ impl Numbers {
         })
     }
 
-    /// Adds a number, where there is memory.
-    pub fn push(&mut self, number: u64) -> bool
-        ensures pushed { MatchBool result (self.new.items.items ≡ self.old.items.items ++ number ∷ []) (self.new.items.items ≡ self.old.items.items) }
-        ensures tries { self.old.tries ≤ self.new.tries }
-        ensures most { self.old.most ≤ self.new.most }
+    /// Adds a number where there is memory, and gives its place.
+    pub fn push(&mut self, number: u64) -> Option<usize>
+        ensures items { MatchOption result (self.new.items.items ≡ self.old.items.items) (λ place. (place ≡ length self.old.items.items) × (self.new.items.items ≡ self.old.items.items ++ number ∷ [])) }
+        ensures tries { self.new.tries ≡ min (self.old.tries + 1) (2 ^ 64 - 1) }
+        ensures most { self.new.most ≡ max self.old.most number }
         ensures name { self.new.name ≡ self.old.name }
     {
         self.tries = self.tries.saturating_add(1);
         self.most = self.most.max(number);
-        self.items.push(number).is_ok()
+        let place = self.items.len();
+        match self.items.push(number) {
+            Ok(()) => Some(place),
+            Err(_) => None,
+        }
     }
 }
 
@@ -70,43 +78,24 @@ pub fn add<R: Wait>(
     ensures lock { pass.new.lock ≡ lock.now }
     ensures ended { pass.new.has_turn ≡ false }
     ensures grown { GrowsTo (report_of pass.old.seen) (report_of pass.new.seen) }
-    ensures owned { IfSome result (λ place. OwnsNumber pass.old pass.new place number) }
+    ensures turn { AddedOne pass.old pass.new number result }
+    ensures last { IfSome result (λ place. IsLastAt pass.new.seen.items.items place number) }
 {
     let mut held = lock.take(rt, pass);
-    let numbers = held.value();
-    let place = numbers.items.len();
-    let pushed = numbers.push(number);
+    let place = held.value().push(number);
     held.give(pass);
-    if pushed { Some(place) } else { None }
+    place
 }
 
-/// Adds a number by one pass, while another of the lock stands by, and tells whether there was memory.
-pub fn add_beside<R: Wait>(
-    rt: &R,
-    lock: &TurnLock<Numbers>,
-    one: &mut Pass<Numbers>,
-    other: &mut Pass<Numbers>,
-    number: u64,
-) -> bool
-    requires one { (one.old.lock ≡ lock.now) × (one.old.has_turn ≡ false) }
-    requires other { (other.old.lock ≡ lock.now) × (other.old.has_turn ≡ false) }
-    ensures one { (one.new.lock ≡ lock.now) × (one.new.has_turn ≡ false) }
-    ensures other { other.new ≡ other.old }
-{
-    let mut held = lock.take(rt, one);
-    let pushed = held.value().push(number);
-    held.give(one);
-    pushed
-}
-
-/// Ends the lock, and gives the numbers.
+/// Ends the lock, and gives the numbers as the last holding left them.
 pub fn end(lock: TurnLock<Numbers>, passes: Vec<Pass<Numbers>>) -> Numbers
     requires lock { All (λ pass. pass.lock ≡ lock) passes.items }
     requires ended { All (λ pass. pass.has_turn ≡ false) passes.items }
     requires all { length passes.items ≡ lock.passes }
     ensures seen { All (λ pass. GrowsTo (report_of pass.seen) (report_of result)) passes.items }
     ensures name { result.name ≡ lock.opening.name }
+    ensures reports { IsReported report_of name_of lock.opening result passes.items }
+    ensures places { (place : ℕ) → times place (places_over report_of passes.items) ≡ once_within (length lock.opening.items.items) (length result.items.items) place }
 {
-    let numbers = lock.finish(passes);
-    numbers
+    lock.finish(passes)
 }

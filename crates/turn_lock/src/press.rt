@@ -1,9 +1,10 @@
-//! A use of two locks: a list of numbers, and a press that copies its beginning. The press holds a pass of the list's lock.
+//! A use of two locks: a list of numbers, and a press that copies a prefix of it. The press has a pass of the list's lock.
 ghost use Rattle.std.specs.Prelude.{◌≡◌, ◌+◌, ◌<◌, ◌↔◌, All, IsTrue, [], false, length, slice_index};
 ghost use mathlib.Core.List.{IsPrefix};
 ghost use Rattle.turn_lock.specs.Report.{GrowsTo};
+ghost use Rattle.turn_lock.specs.Numbers.{report_of};
 ghost use Rattle.turn_lock.specs.Locks.{with_seen};
-ghost use Rattle.turn_lock.specs.Press.{copy_report, copied_from};
+ghost use Rattle.turn_lock.specs.Copying.{HasLooked, HasCopied, HasAsked, HaveEnded};
 
 use crate::lock::TurnLock;
 use crate::numbers::Numbers;
@@ -13,7 +14,7 @@ use std::alloc::Global;
 use std::marker::Model;
 use std::sync::Wait;
 
-/// A copy of the beginning of a list that is under a lock.
+/// A copy of a prefix of a list that is under a lock.
 #[derive(Drop)]
 pub struct Press {
     copy: Vec<u64>,
@@ -64,10 +65,10 @@ impl Press {
         }
     }
 
-    /// Copies what the list has more, and tells whether there was memory.
+    /// Copies what the list has more, and reports whether there was memory.
     fn copy_rest<R: Wait>(&mut self, rt: &R, desk: &TurnLock<Numbers>) -> bool
         requires desk { self.old.pass.lock ≡ desk.now }
-        ensures desk { self.new.pass.lock ≡ desk.now }
+        ensures desk { HasLooked self.old.pass self.new.pass }
         ensures grown { IsPrefix self.old.copy self.new.copy }
         ensures copied { IsTrue result → self.new.copy ≡ self.new.pass.seen.items.items }
     {
@@ -83,9 +84,10 @@ impl Press {
         requires desk { self.old.pass.lock ≡ desk.now }
         requires pass { (pass.old.lock ≡ desk.now) × (pass.old.has_turn ≡ false) }
         requires place { place < length pass.old.seen.items.items }
-        ensures desk { self.new.pass.lock ≡ desk.now }
+        ensures desk { self.new.pass ≡ with_seen self.old.pass pass.new.seen }
         ensures copy { self.new.copy ≡ self.old.copy }
         ensures pass { pass.new ≡ with_seen pass.old pass.new.seen }
+        ensures grown { GrowsTo (report_of pass.old.seen) (report_of pass.new.seen) }
         ensures inside { IsTrue result ↔ (place < length self.new.copy) }
         ensures known { IsTrue result → slice_index self.new.copy place ≡ slice_index pass.old.seen.items.items place }
     {
@@ -94,7 +96,7 @@ impl Press {
     }
 }
 
-/// Makes the copy the whole list, and tells whether there was memory.
+/// Makes the copy the whole list, and reports whether there was memory.
 fn extend(copy: &mut Vec<u64>, list: &Vec<u64>) -> bool
     requires { IsPrefix copy.old.items list.now.items }
     ensures grown { IsPrefix copy.old.items copy.new.items }
@@ -108,7 +110,7 @@ fn extend(copy: &mut Vec<u64>, list: &Vec<u64>) -> bool
     }
 }
 
-/// Copies all that the list has. The press's lock is taken first, then the list's.
+/// Copies all that the list has, and reports whether there was memory. The press's lock is taken first, then the list's.
 pub fn copy_all<R: Wait>(
     rt: &R,
     desk: &TurnLock<Numbers>,
@@ -119,6 +121,7 @@ pub fn copy_all<R: Wait>(
     requires press { (pass.old.lock ≡ press.now) × (pass.old.has_turn ≡ false) }
     ensures press { (pass.new.lock ≡ press.now) × (pass.new.has_turn ≡ false) }
     ensures grown { IsPrefix pass.old.seen.copy pass.new.seen.copy }
+    ensures turn { HasCopied pass.old pass.new }
     ensures copied { IsTrue result → pass.new.seen.copy ≡ pass.new.seen.pass.seen.items.items }
 {
     let mut held = press.take(rt, pass);
@@ -139,8 +142,10 @@ pub fn is_copied<R: Wait>(
     requires desk { (worker.old.desk.lock ≡ desk.now) × (worker.old.desk.has_turn ≡ false) }
     requires press { (worker.old.press.lock ≡ press.now) × (worker.old.press.has_turn ≡ false) }
     requires place { place < length worker.old.desk.seen.items.items }
-    ensures desk { (worker.new.desk.lock ≡ desk.now) × (worker.new.desk.has_turn ≡ false) }
+    ensures desk { worker.new.desk ≡ with_seen worker.old.desk worker.new.desk.seen }
     ensures press { (worker.new.press.lock ≡ press.now) × (worker.new.press.has_turn ≡ false) }
+    ensures grown { GrowsTo (report_of worker.old.desk.seen) (report_of worker.new.desk.seen) }
+    ensures turn { HasAsked worker.old.press worker.new.press worker.new.desk.seen }
     ensures inside { IsTrue result ↔ (place < length worker.new.press.seen.copy) }
     ensures known { IsTrue result → slice_index worker.new.press.seen.copy place ≡ slice_index worker.old.desk.seen.items.items place }
 {
@@ -150,7 +155,7 @@ pub fn is_copied<R: Wait>(
     copied
 }
 
-/// Ends both locks: the copy is a beginning of the list.
+/// Ends both locks, and gives the list and the copy as the last holdings left them. The copy is a prefix of the list.
 pub fn end_both(
     desk: TurnLock<Numbers>,
     press: TurnLock<Press>,
@@ -161,6 +166,9 @@ pub fn end_both(
     requires press { All (λ worker. (worker.press.lock ≡ press) × (worker.press.has_turn ≡ false)) workers.items }
     requires all { (length workers.items ≡ press.passes) × (length workers.items + 1 ≡ desk.passes) }
     ensures prefix { IsPrefix result.1.items result.0.items.items }
+    ensures desk { All (λ worker. IsPrefix worker.desk.seen.items.items result.0.items.items) workers.items }
+    ensures press { All (λ worker. IsPrefix worker.press.seen.copy result.1.items) workers.items }
+    ensures last { HaveEnded desk press workers.items result.0 result.1.items }
 {
     let mut at_desk = desk.close();
     let mut at_press = press.close();

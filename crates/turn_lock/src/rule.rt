@@ -86,16 +86,16 @@ impl<V> Play<Option<V>, View<V>> for Leave {
     ghost then = { Leaves };
 }
 
-/// A change of a word that a pass sleeps on.
-pub struct Nudge;
+/// A change of a word that a pass parks on, which wakes it.
+pub struct Wake;
 
-impl<V> Play<Option<V>, View<V>> for Nudge {
+impl<V> Play<Option<V>, View<V>> for Wake {
     ghost use Rattle.turn_lock.specs.Views.{Stays};
 
     ghost then = { Stays };
 }
 
-/// A look at nothing, by which a seat recalls that all lists that it knows of are beginnings of one.
+/// A load that changes nothing. By it a seat recalls that all lists that it knows of are prefixes of one list.
 pub struct Recall;
 
 impl<V: Reports> Play<Option<V>, View<V>> for Recall {

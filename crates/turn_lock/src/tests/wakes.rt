@@ -1,4 +1,4 @@
-//! A pass that sleeps is woken at its turn. No clause promises it.
+//! A pass that parks is woken at its turn. No clause promises it.
 ghost use Rattle.std.specs.Prelude.{◌≡◌, All, IfOk, false, length};
 
 use crate::{NoMemory, Numbers, Pass, TurnLock, end};
@@ -8,7 +8,7 @@ use std::thread;
 use std::thread::Threads;
 use std::time::{Clock, Duration};
 
-/// Takes turns that last far longer than a pass looks before it sleeps.
+/// Takes turns that last far longer than a pass looks before it parks.
 fn hold_long<R: Wait + Clock>(
     rt: &R,
     lock: &TurnLock<Numbers>,
@@ -29,7 +29,7 @@ fn hold_long<R: Wait + Clock>(
     pass
 }
 
-/// Each pass in a thread of its own: all but one sleep at any time.
+/// Each pass in a thread of its own: all but one park at any time.
 #[tactic(auto, using(crate::proofs::Sent::pass_send))]
 fn hold_in_threads<R: Threads + Wait + Clock + Sync>(
     rt: &R,

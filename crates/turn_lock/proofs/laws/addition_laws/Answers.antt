@@ -1,4 +1,4 @@
-use Rattle.turn_lock.specs.Ends.{own_over}
+use Rattle.turn_lock.specs.History.{own_over}
 use Rattle.turn_lock.proofs.Orders.{ordered, raise_apart}
 use Rattle.turn_lock.proofs.laws.addition_laws.Goals as goal
 

@@ -1,20 +1,18 @@
-use Rattle.std.proofs.Common.{◌≡◌, ℕ, [], ◌∷◌, ◌++◌, length, sym, ap, ◌∙◌, arith}
+use Rattle.std.proofs.Common.{ap, ◌∙◌, subst}
 use Rattle.turn_lock.specs.declared.numbers.Numbers.{Numbers}
-use Rattle.turn_lock.specs.Views.{addition}
-use Rattle.turn_lock.specs.Locks.{PassView}
+use Rattle.turn_lock.specs.Numbers.{IsPushed}
+use Rattle.turn_lock.specs.Locks.{PassView, with_report}
 use Rattle.turn_lock.proofs.numbers.add.Goals as goal
 
-pub returns-then-pushed-clause-owned : goal.returns-then-pushed-clause-owned
-returns-then-pushed-clause-owned g c =
-    let n : ℕ = c.give.ensures.0 in
-    let left : Numbers = c.push-pushed.new.self in
-    let found : Numbers = c.take-held.result.value in
-    let seen : c.give.new.pass.seen ≡ left = ap (λ (p : PassView Numbers). p.seen) c.give.ensures.1 in
-    let place : length c.value-numbers.result.now.items.items ≡ c.len-place.result = omega (arith, c.len-place.ensures, c.value-numbers.result.now.items.ok) in
-    let own : c.give.new.pass.own ≡ c.args.pass.now.own ++ addition n found c.give.new.pass.seen ∷ [] =
-    ap (λ (p : PassView Numbers). p.own) c.give.ensures.1
-    ∙ ap (λ (p : PassView Numbers). p.own ++ addition n p.seen left ∷ []) c.take-held.ensures.pass
-    ∙ ap (λ (x : Numbers). c.args.pass.now.own ++ addition n found x ∷ []) (sym seen) in (
-      (c.value-numbers.result.now.items.items, ap (λ (x : Numbers). x.items.items) seen ∙ c.if-pushed.ensures.pushed, place),
-      (n, found, own, ap (λ (x : Numbers). length x.items.items) (sym c.value-numbers.ensures.value) ∙ place),
-    )
+pub returns-clause-turn : goal.returns-clause-turn
+returns-clause-turn g c =
+    let told = c.push-place.ensures in
+    let left : Numbers = c.push-place.new.self in
+    let P : Numbers → Type 0 = λ (found : Numbers). IsPushed found c.args.number c.push-place.result left in
+    record {
+      found = c.take-held.result.value;
+      left = left;
+      turn = record { number = c.give.ensures.0; after_is = c.give.ensures.1 ∙ ap (λ (p : PassView Numbers). with_report p c.give.ensures.0 left) c.take-held.ensures.pass };
+      grown = c.take-held.ensures.grown;
+      pushed = subst P c.value.ensures.value (record { items = told.items; tries = told.tries; most = told.most; name = told.name });
+    }

@@ -1,4 +1,4 @@
-use Rattle.std.proofs.Common.{◌≡◌, ◌+◌, All, false, length}
+use Rattle.std.proofs.Common.{◌≡◌, ◌+◌, ◌++◌, All, false, length, map}
 use Rattle.turn_lock.specs.declared.press.Worker.{Worker}
 use Rattle.turn_lock.proofs.press.end_both.Given as goal
 
@@ -8,6 +8,8 @@ invariant-loop-worker l = record {
   at_press : l.at_press.lock ≡ l.fn.press;
   desk_count : length l.workers.items + length l.at_desk.passes ≡ length l.fn.workers.items;
   press_count : length l.workers.items + length l.at_press.passes ≡ length l.fn.workers.items;
+  desks : map (λ (worker : Worker). worker.desk) l.workers.items ++ l.at_desk.passes ≡ map (λ (worker : Worker). worker.desk) l.fn.workers.items;
+  presses : map (λ (worker : Worker). worker.press) l.workers.items ++ l.at_press.passes ≡ map (λ (worker : Worker). worker.press) l.fn.workers.items;
   desk : All (λ (worker : Worker). (worker.desk.lock ≡ l.fn.desk) × (worker.desk.has_turn ≡ false)) l.workers.items;
   press : All (λ (worker : Worker). (worker.press.lock ≡ l.fn.press) × (worker.press.has_turn ≡ false)) l.workers.items;
 }

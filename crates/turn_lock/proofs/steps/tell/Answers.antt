@@ -8,15 +8,15 @@ use Rattle.turn_lock.proofs.steps.tell.Goals as goal
 
 pub split_seat-told-requires : goal.split_seat-told-requires
 split_seat-told-requires g c =
-    let t = c.args.board.now in (
+    let t = c.args.words.now in (
       c.requires.tables.0,
-      omega (arith, c.requires.board.0),
+      omega (arith, c.requires.laid.0),
       tells g.V.Reports.report g.V.Reports.origin t.key.passes t.key.opening.value c.args.from.now.id c.args.from.now.me.0,
     )
 
 pub join_seat-requires : goal.join_seat-requires
 join_seat-requires g c =
-    let t = c.args.board.now in
+    let t = c.args.words.now in
     let told = c.split_seat-told.ensures in
     let to = c.args.to.now in
     let seat = c.split_seat-told.result in
@@ -24,6 +24,6 @@ join_seat-requires g c =
       c.requires.tables.1,
       told.3 ∙ c.requires.tables.0,
       ap (λ m. m.1) told.4,
-      omega (arith, c.requires.board.0),
+      omega (arith, c.requires.laid.0),
       subst P (sym (ap (λ m. m.0) told.4)) (hears g.V.Reports.report g.V.Reports.origin t.key.passes t.key.opening.value to.id seat.id to.me.0 c.args.from.now.me.0.seen),
     )

@@ -1,6 +1,6 @@
 use Rattle.std.proofs.Common.{[], ◌∷◌, Some, sym, ap, ◌∙◌}
 use Rattle.turn_lock.proofs.Opening.{kept_first}
-use Rattle.turn_lock.proofs.makes.make_board.Goals as goal
+use Rattle.turn_lock.proofs.new_table.make_table.Goals as goal
 
 pub new-requires : goal.new-requires
 new-requires g c =

@@ -1,4 +1,4 @@
--- The end of a lock, where its passes are joined into one.
+-- All values that a lock reported, which pass owns which report, and in what order they came.
 use Rattle.std.specs.Prelude.{◌≡◌, ◌≢◌, ℕ, ◌+◌, ◌<◌, List, [], ◌∷◌, ◌++◌, All, length}
 use mathlib.Core.List.{IsPrefix}
 use mathlib.Core.Logic.{◌⊎◌}
@@ -20,13 +20,13 @@ own_over (pass ∷ passes) = pass.own ++ own_over passes
 abbrev pub places_over : {V I : Type 0} → (V → Report I) → List (PassView V) → List ℕ
 places_over report passes = places_of report (own_over passes)
 
--- the value stands among these
+-- the value is one of these
 pub record Among {V : Type 0} (all : List V) (value : V) : Type 0 where
   pub earlier : List V
   pub later : List V
   pub stands : earlier ++ value ∷ later ≡ all
 
--- the two stand at two places of the list
+-- the two are at two places of the list, in this order
 pub record AtTwoPlaces {X : Type 0} (all : List X) (a b : X) : Type 0 where
   pub before : List X
   pub between : List X

@@ -6,15 +6,15 @@ ghost use Rattle.turn_lock.specs.Seated.{IsLaid, lock_of};
 
 use crate::faults::NoMemory;
 use crate::lock::Table;
-use crate::pass::{Notes, Pass, Place};
+use crate::pass::{LocalState, Pass, Seat};
 use crate::reports::Reports;
 use crate::rule::{Apart, Start};
-use crate::steps::Board;
+use crate::steps::Words;
 use atomic_table::Refused;
 use std::alloc::{AllocError, Global};
 use std::snapshot::Snapshot;
 
-/// The words at the start: no ticket and no turn, one report, and one word for each pass to sleep on.
+/// The words at the start: no ticket and no turn, one report, and one word for each pass to park on.
 fn first_words(alloc: Global, passes: u32) -> Result<Vec<u64>, AllocError>
     ensures { IfOk result (λ words. words.items ≡ (0 ∷ 0 ∷ 1 ∷ []) ++ replicate passes 0) }
 {
@@ -45,41 +45,41 @@ fn only<V: Reports>(mut slots: Vec<Option<V>>) -> V
 }
 
 /// A pass over the seat.
-fn pass_of<V: Reports>(place: Place<V>, start: &Start<V>) -> Pass<V>
-    requires { place.me ≡ (first_view 1 start.now.opening.value, []) }
-    ensures { result ≡ new_pass (lock_of place.table_id start.now) }
+fn pass_of<V: Reports>(seat: Seat<V>, start: &Start<V>) -> Pass<V>
+    requires { seat.me ≡ (first_view 1 start.now.opening.value, []) }
+    ensures { result ≡ new_pass (lock_of seat.table_id start.now) }
 {
     Pass {
-        place,
-        notes: Notes {
+        seat,
+        local: LocalState {
             start: Snapshot::of(start),
             turns: 0,
         },
     }
 }
 
-/// Cuts so many passes from the first seat.
-fn deal<V: Reports>(
-    board: &Board<V>,
-    mut first: Place<V>,
+/// Splits the first seat into one for each pass.
+fn split_passes<V: Reports>(
+    words: &Words<V>,
+    mut first: Seat<V>,
     start: &Start<V>,
-    dealt: &mut Vec<Pass<V>>,
+    all: &mut Vec<Pass<V>>,
 )
-    requires seat { (first.table_id ≡ board.now.table_id) × (first.me ≡ (first_view start.now.passes start.now.opening.value, [])) }
-    requires board { IsLaid board.now.table_id start.now.passes × (board.now.key ≡ start.now) }
+    requires seat { (first.table_id ≡ words.now.table_id) × (first.me ≡ (first_view start.now.passes start.now.opening.value, [])) }
+    requires laid { IsLaid words.now.table_id start.now.passes × (words.now.key ≡ start.now) }
     requires passes { 1 ≤ start.now.passes }
-    requires room { (dealt.old.items ≡ []) × (vec_len dealt.old ≡ 0) × (vec_capacity dealt.old ≡ start.now.passes) }
-    ensures { dealt.new.items ≡ replicate start.now.passes (new_pass (lock_of board.now.table_id start.now)) }
+    requires room { (all.old.items ≡ []) × (vec_len all.old ≡ 0) × (vec_capacity all.old ≡ start.now.passes) }
+    ensures { all.new.items ≡ replicate start.now.passes (new_pass (lock_of words.now.table_id start.now)) }
 {
     for _ in 1..start.passes {
-        let place = board.split_seat::<Apart>(&mut first);
-        dealt.push_reserved(pass_of(place, start));
+        let seat = words.split_seat::<Apart>(&mut first);
+        all.push_reserved(pass_of(seat, start));
     }
-    dealt.push_reserved(pass_of(first, start));
+    all.push_reserved(pass_of(first, start));
 }
 
 /// The table of a lock over the value, and its passes.
-pub(crate) fn make_board<V: Reports>(
+pub(crate) fn make_table<V: Reports>(
     alloc: Global,
     value: V,
     passes: u32,
@@ -90,7 +90,7 @@ pub(crate) fn make_board<V: Reports>(
     ensures passes { IfOk result (λ made. made.1.items ≡ replicate passes (new_pass (lock_of made.0.shared.table_id made.0.shared.key))) }
     ensures value { IfErr result (λ refused. refused.0 ≡ value) }
 {
-    let Ok(mut dealt) = Vec::with_capacity(alloc, passes as usize) else {
+    let Ok(mut all) = Vec::with_capacity(alloc, passes as usize) else {
         return Err((value, NoMemory));
     };
     let Ok(words) = first_words(alloc, passes) else {
@@ -106,8 +106,8 @@ pub(crate) fn make_board<V: Reports>(
     };
     match Table::new(alloc, words.as_slice(), slots, &start) {
         Ok((table, first)) => {
-            deal(&table.shared, first, &start, &mut dealt);
-            Ok((table, dealt))
+            split_passes(&table.shared, first, &start, &mut all);
+            Ok((table, all))
         }
         Err(Refused { slots }) => Err((only(slots), NoMemory)),
     }

@@ -1,4 +1,4 @@
-//! The value of a holding, lent. The clause names the row of `Held`, which the file that declares it can't import.
+//! The value of a holding, borrowed from it. The clause names the row of `Held`, which the file that declares it can't import.
 ghost use Rattle.std.specs.Prelude.{◌≡◌, []};
 ghost use Rattle.std.specs.Borrow.{Lends, sem};
 ghost use mir.Syntax.{named};
