@@ -4,6 +4,7 @@ ghost use Rattle.std.specs.Prelude.{◌≡◌, ◌<◌, length};
 use crate::locks::{mutexes, turns};
 use crate::messages::{opens_right, protects_right};
 use crate::parts::{Look, leases, looks, releases, renewals, windows};
+use crate::states::{Question, decisions, questions};
 use aes_ccm::{Aes128, Unsealed};
 use hkdf_sha256::{expand, extract};
 use seq_table::{Draw, Seat, SeqTable};
@@ -58,10 +59,15 @@ pub enum Case {
     LeaseGrant,
     LeaseRelease,
     Window,
+    Due,
+    DueAgain,
+    Apply,
+    JobFor,
+    Waiting,
 }
 
 impl Case {
-    pub const ALL: [Case; 17] = [
+    pub const ALL: [Case; 22] = [
         Case::Block,
         Case::Seal,
         Case::Unseal,
@@ -79,6 +85,11 @@ impl Case {
         Case::LeaseGrant,
         Case::LeaseRelease,
         Case::Window,
+        Case::Due,
+        Case::DueAgain,
+        Case::Apply,
+        Case::JobFor,
+        Case::Waiting,
     ];
 
     /// The case of this word.
@@ -101,6 +112,11 @@ impl Case {
             "lease_grant" => Some(Case::LeaseGrant),
             "lease_release" => Some(Case::LeaseRelease),
             "window" => Some(Case::Window),
+            "due" => Some(Case::Due),
+            "due_again" => Some(Case::DueAgain),
+            "apply" => Some(Case::Apply),
+            "job_for" => Some(Case::JobFor),
+            "waiting" => Some(Case::Waiting),
             _ => None,
         }
     }
@@ -124,6 +140,11 @@ impl Case {
             Case::LeaseGrant => "lease_grant",
             Case::LeaseRelease => "lease_release",
             Case::Window => "window",
+            Case::Due => "due",
+            Case::DueAgain => "due_again",
+            Case::Apply => "apply",
+            Case::JobFor => "job_for",
+            Case::Waiting => "waiting",
         }
     }
 
@@ -147,6 +168,11 @@ impl Case {
             Case::LeaseGrant => renewals(alloc, 1) == Some(65534),
             Case::LeaseRelease => releases(alloc, 1) == Some(65533),
             Case::Window => windows(2000, 7) == Some(WINDOW),
+            Case::Due => questions(alloc, Question::Fresh, 1) == Some(1),
+            Case::DueAgain => questions(alloc, Question::Repeat, 1) == Some(1),
+            Case::Apply => decisions(alloc, 1) == Some(1),
+            Case::JobFor => questions(alloc, Question::Job, 1) == Some(1),
+            Case::Waiting => questions(alloc, Question::Waiting, 1) == Some(1),
         }
     }
 
@@ -174,6 +200,11 @@ impl Case {
                 None => false,
                 Some((greatest, bits)) => greatest ^ bits as u64 != 0xffff_ffff_ffff,
             },
+            Case::Due => questions(alloc, Question::Fresh, count) == Some(count),
+            Case::DueAgain => questions(alloc, Question::Repeat, count) == Some(count),
+            Case::Apply => decisions(alloc, count) == Some(count),
+            Case::JobFor => questions(alloc, Question::Job, count) == Some(count),
+            Case::Waiting => questions(alloc, Question::Waiting, count) == Some(count),
         }
     }
 }

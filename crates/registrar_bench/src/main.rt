@@ -1,12 +1,14 @@
 // The program that measures what the product spends its time on, case by case.
 // It promises its user that with no words each case's answer is compared with one from elsewhere, and that with the word of
-// a case and a count the time of that many repetitions is told. It proves nothing of its own, and has no definitions.
+// a case and a count the time of that many repetitions is reported. It proves nothing of its own; specs/ has what the states
+// that are measured must have, so that the calls may be made.
 #![tactic(auto)]
 
 mod case;
 mod locks;
 mod messages;
 mod parts;
+mod states;
 mod status;
 
 use case::Case;
@@ -46,11 +48,16 @@ lease_grant
 lease_release
           releases one pledge of 65,533, and grants its address anew
 window    judges a number by the replay window, and takes it
+due       says what a fresh join is due, of 16,384 pledges with a live lease
+due_again says the same of a repeat of the last request
+apply     says what a fresh join is due, and adds that Grant
+job_for   looks up the update that a pledge is owed, where the second half of the 16,384 waits for keys
+waiting   finds the first pledge that waits for keys there
 ";
 
 const VERSION: &str = "registrar_bench 0.1.0\n";
 
-/// The words behind the program's name.
+/// The words after the program's name.
 fn words_of(rt: &HostRuntime) -> io::Result<Vec<String>> {
     let mut words = Vec::new(rt.alloc());
     for word in env::args(rt)?.skip(1) {

@@ -78,7 +78,7 @@ pub fn renewals(alloc: Global, count: u64) -> Option<u32> {
     Some(leases.kept())
 }
 
-/// How many grants are kept after so many releases, behind each of which the address is granted
+/// How many grants are kept after so many releases, after each of which the address is granted
 /// anew.
 pub fn releases(alloc: Global, count: u64) -> Option<u32> {
     let mut leases = filled(alloc)?;
@@ -123,18 +123,18 @@ fn renew(leases: &mut Leases, address: u16, now: u64)
     }
 }
 
-fn pledge(number: u16) -> PledgeId {
+pub(crate) fn pledge(number: u16) -> PledgeId {
     PledgeId((number as u64).to_be_bytes())
 }
 
 /// Numbers that a compiler can't foresee: the seed is known at run time only.
 #[derive(Drop)]
-struct Draws {
-    state: u64,
+pub(crate) struct Draws {
+    pub(crate) state: u64,
 }
 
 impl Draws {
-    fn next(&mut self) -> u64 {
+    pub(crate) fn next(&mut self) -> u64 {
         self.state = self
             .state
             .wrapping_mul(6364136223846793005)
