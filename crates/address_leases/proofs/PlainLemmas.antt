@@ -228,7 +228,7 @@ plain_releases id grants lasts passed room new total = record {
 
 -- ---- the marks of addresses that others hold
 
--- the marks of so many addresses, all of which are clear
+-- the marks of `n` addresses, all of which are clear
 are_clear : (n : ℕ) (marks : List Bool) → marks ≡ replicate n false → (a : ℕ) → a < n → slice_index_or marks a false ≡ false
 are_clear n marks is a below = ap (λ l. slice_index_or l a false) is ∙ get_or-replicate n a false false below
 

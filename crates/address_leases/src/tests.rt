@@ -42,7 +42,7 @@ struct World {
     count: u16,
     /// How many pledges there are. At first each address is held by the one of its number.
     pledges: u64,
-    /// One of so many of these leases ends, within so many hours.
+    /// One in this many leases ends, within this many hours.
     ending: u64,
     hours: u64,
 }

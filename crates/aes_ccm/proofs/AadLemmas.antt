@@ -73,7 +73,7 @@ pub cbc_mac-none : (key mac bytes : List ℕ) → length bytes ≡ 0 → cbc_mac
 unfolding cbc_mac
 cbc_mac-none key mac bytes h = ap (cbc_mac key mac) (blocks-empty bytes h)
 
--- zeros behind the length and the first bytes of the AAD
+-- zeros after the length and the first bytes of the AAD
 pub padded-length : (a b : ℕ) (bytes : List ℕ) (n : ℕ) → n ≡ length bytes
     → (a ∷ b ∷ []) ++ (bytes ++ drop n (replicate 14 0)) ≡ padded ((a ∷ b ∷ []) ++ bytes)
 unfolding padded

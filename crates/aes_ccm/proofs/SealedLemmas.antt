@@ -175,7 +175,7 @@ sealing_of key nonce aad buf text tag seen plain len o e =
       len_is = n;
     }
 
--- the buffer behind the text, and behind what was overwritten
+-- the buffer after the text, and after what was overwritten
 pub opened_buffer : (key nonce aad buf text tag seen : List ℕ) (len : ℕ) → IsOpening key nonce aad buf text tag seen len
     → (take (len - 8) (text ++ drop (len - 8) buf) ≡ text) × (drop (len - 8) (text ++ drop (len - 8) buf) ≡ drop (len - 8) buf)
     × (drop len (text ++ drop (len - 8) buf) ≡ drop len buf) × (length (take len (text ++ drop (len - 8) buf)) ≡ len)

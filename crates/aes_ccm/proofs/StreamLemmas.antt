@@ -51,7 +51,7 @@ streamed-more key nonce i text h =
     ap (xor text) stream
     ∙ subst P (length-key_block key nonce i) (xor-append text (key_block key nonce i) (key_stream key nonce (i + 1) (block_count (drop 16 text))))
 
--- ---- a block in front of the rest
+-- ---- a block before the rest
 
 -- a block and what follows it, which is nothing where the block isn't whole
 pub record IsFront (block rest : List ℕ) : Type 0 where

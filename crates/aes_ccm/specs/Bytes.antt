@@ -11,7 +11,7 @@ xor (x ∷ xs) (y ∷ ys) = bit_xor x y ∷ xor xs ys
 unfoldable pub two_bytes : ℕ → List ℕ
 two_bytes n = n / 256 ∷ n % 256 ∷ []
 
--- at most 16 bytes, with zeros behind them up to 16
+-- at most 16 bytes, with zeros after them up to 16
 unfoldable pub padded : List ℕ → List ℕ
 padded bytes = bytes ++ replicate (16 - length bytes) 0
 

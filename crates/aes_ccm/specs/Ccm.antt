@@ -13,7 +13,7 @@ adata (_ ∷ _) = 1
 unfoldable pub first_block : List ℕ → List ℕ → ℕ → List ℕ
 first_block nonce aad len = (64 * adata aad + 8 * 3 + 1) ∷ nonce ++ two_bytes len
 
--- the AAD behind its length, and nothing where there is none (2.2)
+-- the AAD after its length, and nothing where there is none (2.2)
 unfoldable pub encoded_aad : List ℕ → List ℕ
 encoded_aad [] = []
 encoded_aad (byte ∷ bytes) = two_bytes (length (byte ∷ bytes)) ++ byte ∷ bytes

@@ -11,7 +11,7 @@ const BARE_FLAGS: u8 = 0x19;
 
 const AAD_FLAGS: u8 = 0x59;
 
-// The bytes, with zeros behind them.
+// The bytes, with zeros after them.
 #[inline(always)]
 pub(crate) fn padded(bytes: &[u8]) -> [u8; 16]
     requires { length bytes.now ≤ 16 }

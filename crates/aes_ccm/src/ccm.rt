@@ -13,7 +13,7 @@ const TAG: usize = 8;
 /// What an opening answers.
 #[derive(Debug, Clone, Copy, PartialEq, Eq)]
 pub enum Unsealed {
-    /// The plaintext, of this many bytes, stands at the front of the buffer.
+    /// The plaintext, of this many bytes, is at the start of the buffer.
     Opened(usize),
     /// There are fewer bytes than a tag has.
     Short,
@@ -98,7 +98,7 @@ impl Aes128 {
         tag
     }
 
-    /// Seals the first `len` bytes of `buf` in place, and puts the tag of 8 bytes behind them (RFC 3610, 2). It answers
+    /// Seals the first `len` bytes of `buf` in place, and puts the tag of 8 bytes after them (RFC 3610, 2). It answers
     /// the length of the sealing.
     pub fn seal(&self, nonce: &[u8; 13], aad: &[u8], buf: &mut [u8], len: usize) -> usize
         requires room { len + 8 ≤ length buf.old }

@@ -30,7 +30,7 @@ impl Aes128 {
         self.block(&sum(mac, block))
     }
 
-    // The value behind the blocks of these bytes.
+    // The value after the blocks of these bytes.
     fn chained_all(&self, mac: [u8; 16], bytes: &[u8]) -> [u8; 16]
         ensures { result ≡ cbc_mac self.now mac (blocks bytes.now) }
     {
@@ -45,7 +45,7 @@ impl Aes128 {
         mac
     }
 
-    // The value behind B_0 and the AAD.
+    // The value after B_0 and the AAD.
     pub(crate) fn mac_of_aad(&self, nonce: &[u8; 13], aad: &[u8], len: usize) -> [u8; 16]
         requires aad { length aad.now < 65280 }
         requires len { len < 65536 }

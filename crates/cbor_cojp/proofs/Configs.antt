@@ -83,7 +83,7 @@ hours_again items end text (Some hours) rest h = rw (eq-eqb items 2 h.0, (reads_
 pub reads_hours : (items : ℕ) → IsReadingOf (hours_at items) (IsHours items)
 reads_hours items = record { takes = hours_take items; again = hours_again items }
 
--- the parts of a short address, one behind the other
+-- the parts of a short address, one after the other
 abbrev pub Parts : List ℕ → Short → Type 0
 Parts =
     Then (IsBounded Array 1 2) (λ items. Then IsAddress (λ address rest s.

@@ -44,7 +44,7 @@ length_string : (value : List ℕ) → length value < 2 ^ 16 → length (string 
 unfolding string
 length_string value lt = rw (length-append) (omega (arith, most3 Bytes (length value) lt))
 
--- ---- fields, the first in front of the others
+-- ---- fields, the first before the others
 
 module _ {S : Type 0} (IsField : S → List ℕ → S → Type 0) where
   pub times_cons : (n : ℕ) (before middle after : S) (text rest : List ℕ) → IsField before text middle → Times IsField n middle rest after

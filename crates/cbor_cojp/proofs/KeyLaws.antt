@@ -117,7 +117,7 @@ info_lasts (suc spare) end (first ∷ bytes) more f l e =
     ])
     (λ p h. absurd cc) e
 
--- ---- a key behind its id
+-- ---- a key after its id
 
 abbrev made_of : ℕ → Used → List ℕ → ℕ → Made
 made_of id used value left = record { key = record { id = id; usage = used.usage; value = value }; left = left }

@@ -64,7 +64,7 @@ next_of_string major text value rest h =
     ∙ ap (is_next major) (append_assoc h.0 value rest)
     ∙ next_is Bytes major h.0 (value ++ rest) (length value) h.1
 
--- ---- parts of a key, each of so many items
+-- ---- parts of a key, each with its count of items
 
 record Part (IsPart : List ℕ → ℕ → Type 0) (left after : ℕ) (bytes rest : List ℕ) : Type 0 where
   text : List ℕ

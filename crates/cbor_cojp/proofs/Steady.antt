@@ -245,7 +245,7 @@ steady_if {A} Open read IsText steady b P label to = record {
       (λ p h. absurd cc) e;
 }
 
--- the value of a known label, which must not stand twice
+-- the value of a known label, which must not occur twice
 pub steady_once : {A : Type 0} (Open : ℕ → List ℕ → ℕ → Type 0) (read : ℕ → List ℕ → Result (A × List ℕ) CojpFault) (IsText IsWhole : List ℕ → A → Type 0)
     → Steady Open Any read IsText → (b : Bool) (label : ℕ) → ((text : List ℕ) (y : A) → b ≡ false → IsText text y → IsWhole text y)
     → Steady Open Any (λ end bytes. cond b (Err (Repeated label)) (read end bytes)) IsWhole

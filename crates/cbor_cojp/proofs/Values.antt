@@ -37,7 +37,7 @@ module _ (label : ℕ) (major : Major) (low high : ℕ) where
     again = λ end text n rest h. rw (head_within.again end text n rest h.0, le-leb low n h.1, le-leb n high h.2) refl;
   }
 
--- the length that a string's head tells
+-- the length in a string's head
 length_at-string : (end : ℕ) (text value rest : List ℕ) → IsString Bytes text value → length_at Bytes end (text ++ rest) ≡ Ok (length value)
 length_at-string end text value rest h =
     let whole : text ++ rest ≡ h.0 ++ (value ++ rest) = ap (λ (xs : List ℕ). xs ++ rest) h.2 ∙ append_assoc h.0 value rest in
@@ -49,7 +49,7 @@ known n = Ok n
 known_is : (m n : ℕ) → known m ≡ known n → m ≡ n
 known_is m n e = cc
 
--- a string has the length that its head tells
+-- a string has the length that its head says
 pub string_len : (end n : ℕ) (bytes value rest : List ℕ) → length_at Bytes end bytes ≡ Ok n → string_at Bytes end bytes ≡ Ok (value, rest) → length value ≡ n
 string_len end n bytes value rest l e =
     let t = (reads_string Bytes).takes end bytes value rest e in

@@ -70,7 +70,7 @@ abbrev pub IsAddress : List ℕ → ℕ → Type 0
 IsAddress text address =
     (v : List ℕ) × IsSized 2 text v × (address ≡ from_be_bytes w16 v) × (1 ≤ address) × (address ≤ 65533)
 
--- the lease time stands in an array of two items
+-- the lease time is in an array of two items
 abbrev pub IsHours : ℕ → List ℕ → Option ℕ → Type 0
 IsHours items text None = (items ≢ 2) × (text ≡ [])
 IsHours items text (Some hours) = (items ≡ 2) × IsBounded Unsigned 0 max32 text hours

@@ -30,7 +30,7 @@ times_at one_at (suc n) before end bytes = do
   x ← one_at before end bytes
   times_at one_at n x.0 end x.1
 
--- the number of pairs of the map at the front
+-- the number of pairs of the map at the start
 unfoldable pub map_at : ℕ → List ℕ → Result (ℕ × List ℕ) CojpFault
 map_at end [] = Err (Form (Truncated (place end [])))
 map_at end (first ∷ bytes) =

@@ -48,7 +48,7 @@ label_of (negsuc n) = Other
 abbrev pub IsTriple : List ℕ → Unit {0} → Type 0
 IsTriple text done = Then IsInt (λ code. Then IsInt (λ label. IsSkipped)) text done
 
--- one or more triples that stand flat
+-- one or more triples that lie flat
 abbrev pub IsTripleCount : ℕ → Type 0
 IsTripleCount n = (n % 3 ≡ 0) × (3 ≤ n)
 

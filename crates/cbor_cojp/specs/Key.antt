@@ -1,4 +1,4 @@
--- Link-layer key sets (RFC 9031, 8.4.3): keys that stand flat in one array.
+-- Link-layer key sets (RFC 9031, 8.4.3): keys that lie flat in one array.
 use Rattle.std.specs.Prelude.{◌≡◌, ◌⊎◌, ℕ, zero, suc, ◌+◌, ◌≤◌, ℤ, pos, negsuc, Bool, false, List, [], ◌∷◌, ◌++◌, length, Result, Ok, Err, nat_le, ◌==◌, ◌||◌, if◌then◌else◌}
 use Rattle.cbor_item.specs.declared.fault.ItemFault.TheVariants.{Truncated}
 use Rattle.cbor_item.specs.declared.head.Major.{Major}
@@ -20,7 +20,7 @@ IsUsage text usage items = ((text ≡ []) × (usage ≡ 0) × (items ≡ 0)) ⊎
 abbrev pub IsInfo : List ℕ → ℕ → Type 0
 IsInfo text items = ((text ≡ []) × (items ≡ 0)) ⊎ ((info : List ℕ) × IsString Bytes text info × (items ≡ 1))
 
--- the text is this key, in so many items
+-- the text is this key, which is `items` items of the array
 pub record IsKey (text : List ℕ) (key : LinkKey) (items : ℕ) : Type 0 where
   pub id : List ℕ
   pub usage : List ℕ
@@ -35,7 +35,7 @@ pub record IsKey (text : List ℕ) (key : LinkKey) (items : ℕ) : Type 0 where
   pub is_value : IsSized 16 value key.value
   pub is_info : IsInfo info info_items
 
--- the text is these keys, in so many items
+-- the text is these keys, which are `items` items of the array
 abbrev pub AreKeys : List ℕ → List LinkKey → ℕ → Type 0
 AreKeys text [] items = (text ≡ []) × (items ≡ 0)
 AreKeys text (key ∷ keys) items =
@@ -79,7 +79,7 @@ small (pos n) bytes spare =
     if nat_le n 14 then Ok (record { usage = n; spare = spare }, bytes) else Err (Malformed 2)
 small (negsuc n) bytes spare = Err (Malformed 2)
 
--- Where no item is spare, only the value may stand there.
+-- Where no item is spare, only the value may be there.
 unfoldable pub usage_at : ℕ → ℕ → List ℕ → Result (Used × List ℕ) CojpFault
 usage_at zero end bytes = Ok (record { usage = 0; spare = 0 }, bytes)
 usage_at (suc spare) end bytes =
@@ -91,7 +91,7 @@ info_at zero end bytes = Ok (0, bytes)
 info_at (suc left) end bytes =
     if is_next Bytes bytes then within 2 (string_at Bytes end bytes) >>= (λ x. Ok (left, x.1)) else Ok (suc left, bytes)
 
--- a key, where so many items are left beside its id and its value
+-- a key, where `spare` items are left beside its id and its value
 unfoldable pub key_at : ℕ → ℕ → List ℕ → Result (Made × List ℕ) CojpFault
 key_at spare end bytes = do
   id ← bounded_at 2 Unsigned 1 255 end bytes
@@ -100,7 +100,7 @@ key_at spare end bytes = do
   info ← info_at used.0.spare end value.1
   Ok (record { key = record { id = id.0; usage = used.0.usage; value = value.0 }; left = info.0 }, info.1)
 
--- where items are left in which no key fits: one item, or any behind eight keys
+-- where items are left in which no key fits: one item, or any after eight keys
 abbrev pub extra_item : ℕ → List ℕ → CojpFault
 extra_item end [] = Form (Truncated (place end []))
 extra_item end (b ∷ bytes) = Malformed 2

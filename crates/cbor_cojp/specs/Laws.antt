@@ -32,7 +32,7 @@ abbrev pub JoinCompletes : Type 0
 JoinCompletes =
     (end : ℕ) (bytes : List ℕ) (at : ℕ) → join_at end bytes ≡ Err (Form (Truncated at)) → IsBegun (λ text. (join : Join) × IsJoin text join) end bytes at
 
--- Behind the map's head and some fields there is label 2, and its key set is what is cut. The items that are left of its
+-- After the map's head and some fields there is label 2, and its key set is what is cut. The items that are left of its
 -- array may be such as no keys fill.
 pub record IsCutKeySet (end : ℕ) (bytes : List ℕ) (at : ℕ) : Type 0 where
   pub head : List ℕ

@@ -21,7 +21,7 @@ pub struct Short {
     pub hours: Option<u32>,
 }
 
-/// What a pledge is told.
+/// What the registrar tells a pledge.
 #[derive(Clone, Debug, PartialEq, Eq, Drop)]
 pub struct Configuration {
     /// The link-layer keys.

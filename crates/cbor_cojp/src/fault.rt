@@ -11,7 +11,7 @@ pub enum CojpFault {
     /// The bytes are no CBOR of this form: a fault outside the values of known labels, or one that no value may have.
     #[error(transparent)]
     Form(ItemFault),
-    /// This known label stands a second time.
+    /// This known label occurs a second time.
     #[error("label {0} is repeated")]
     Repeated(u8),
     /// The value of this known label is of another kind or out of range.

@@ -56,7 +56,7 @@ fn skip_info(reader: &mut Reader<'_>, left: u64) -> Result<u64, CojpFault>
     Ok(left - 1)
 }
 
-/// A key, where so many items are left beside its id and its value, and how many items are left of the array.
+/// A key, where `spare` items are left beside its id and its value, and how many items of the array remain.
 #[tactic(auto, unfolding(crate::specs::Key::key_at))]
 fn read_key(reader: &mut Reader<'_>, spare: u64) -> Result<(LinkKey, u64), CojpFault>
     ensures { Reads made_view reader.old reader.new result (key_at spare reader.old.end reader.old.left) }

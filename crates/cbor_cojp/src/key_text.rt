@@ -1,4 +1,4 @@
-//! Writing link-layer keys, which stand flat in one array.
+//! Writing link-layer keys, which lie flat in one array.
 ghost use Rattle.std.specs.Prelude.{◌≡◌, ◌++◌, ◌≤◌, All, length};
 ghost use Rattle.std.specs.List.{flat_map, sum_by};
 ghost use Rattle.cbor_cojp.specs.Spelling.{Puts, number, string, array, usage_text, key_text, key_items, keys_text, IsSizedKey};

@@ -7,7 +7,7 @@ ghost use Rattle.cbor_cojp.specs.Grammar.{map_at, ended_at};
 use crate::fault::CojpFault;
 use cbor_item::{Major, Reader};
 
-/// The number of pairs of the map at the front.
+/// The number of pairs of the map at the start.
 #[tactic(auto, using(crate::proofs::Loops::map_at_end, crate::proofs::Loops::map_at_map, crate::proofs::Loops::map_at_other))]
 pub fn read_map(reader: &mut Reader<'_>) -> Result<u64, CojpFault>
     ensures { Reads (λ n. n) reader.old reader.new result (map_at reader.old.end reader.old.left) }
@@ -31,7 +31,7 @@ pub fn read_label(reader: &mut Reader<'_>) -> Result<i64, CojpFault>
     reader.int().map_err(CojpFault::Form)
 }
 
-/// Refuses bytes behind the map.
+/// Refuses bytes after the map.
 pub fn end_object(reader: &Reader<'_>) -> Result<(), CojpFault>
     ensures { result ≡ ended_at reader.now.end reader.now.left }
 {

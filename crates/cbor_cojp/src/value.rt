@@ -87,7 +87,7 @@ pub fn bounded_array(
     }
 }
 
-/// The length of the byte string at the front, as its head tells it. Nothing is read.
+/// The length of the byte string at the start, as its head says it. Nothing is read.
 pub fn len_within(reader: &Reader<'_>, label: u8) -> Result<u64, CojpFault>
     ensures { result ≡ within label (length_at Bytes reader.now.end reader.now.left) }
 {

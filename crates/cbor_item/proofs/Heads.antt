@@ -25,7 +25,7 @@ pub chosen : {A : Type 0} (b : Bool) (x y z : A) → cond b x y ≡ z → ((b �
 chosen true x y z e = inl (refl, e)
 chosen false x y z e = inr (refl, e)
 
--- what was read stands in front of what is left
+-- what was read comes before what is left
 pub record Takes {Y : Type 0} (IsText : List ℕ → Y → Type 0) (bytes : List ℕ) (value : Y) (rest : List ℕ) : Type 0 where
   pub text : List ℕ
   pub is_text : IsText text value

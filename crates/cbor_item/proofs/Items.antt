@@ -11,7 +11,7 @@ use Rattle.cbor_item.specs.Head.{major_of, argument_at}
 use Rattle.cbor_item.specs.Item.{IsContent, IsHeadWithContent, AreAll, IsItem, after_string, after_content, after_head, after_all, after_item}
 use Rattle.cbor_item.proofs.Heads.{bind_ok, guard_ok, ok_is, argument_at-takes, argument_at-again}
 
--- what was passed over stands in front of what is left
+-- what was passed over comes before what is left
 pub record Passes (IsText : List ℕ → Type 0) (bytes rest : List ℕ) : Type 0 where
   pub text : List ℕ
   pub is_text : IsText text

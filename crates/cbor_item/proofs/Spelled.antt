@@ -150,7 +150,7 @@ int_spells (negsuc n) fits = record {
   shortest = λ other b h. head_len Negative n other (bytes_at other b) h.0;
 }
 
--- the bytes of a front
+-- the bytes of a prefix
 front_bytes : (front back : List ℕ) → AreBytes (front ++ back) → AreBytes front
 front_bytes front back b i =
     elim (cases_lt i (length front)) [

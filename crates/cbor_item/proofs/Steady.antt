@@ -120,7 +120,7 @@ grows read IsText reading end bytes more value rest e =
     let whole : bytes ++ more ≡ t.text ++ (rest ++ more) = ap (λ (xs : List ℕ). xs ++ more) t.parts ∙ append_assoc t.text rest more in
     ap (read (end + length more)) whole ∙ reading.again (end + length more) t.text value (rest ++ more) t.is_text
 
--- a cut of the item at the front, of which nothing counts
+-- a cut of the item at the start, of which nothing counts
 pub begun : (IsText : List ℕ → Type 0) (end : ℕ) (bytes : List ℕ) (at : ℕ) (more : List ℕ) → at ≡ place end bytes → AreBytes more → IsText more
     → IsBegun IsText end bytes at
 begun IsText end bytes at more is all text = record {
@@ -133,7 +133,7 @@ begun IsText end bytes at more is all text = record {
   completed = text;
 }
 
--- a cut behind what was read
+-- a cut after what was read
 pub begun_then : (IsText IsWhole : List ℕ → Type 0) (end : ℕ) (bytes front rest : List ℕ) (at : ℕ) → bytes ≡ front ++ rest
     → ((text : List ℕ) → IsText text → IsWhole (front ++ text)) → IsBegun IsText end rest at → IsBegun IsWhole end bytes at
 begun_then IsText IsWhole end bytes front rest at parts to b = record {

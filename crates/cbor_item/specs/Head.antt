@@ -58,7 +58,7 @@ head_text major argument =
 
 -- ---- reading: a head from the left, with its first fault
 
--- a number of this width at the front, for the head at this place
+-- a number of this width at the start, for the head at this place
 abbrev pub number_at : Width → ℕ → List ℕ → Result (ℕ × List ℕ) ItemFault
 number_at w at bytes =
     if nat_lt (length bytes) (byte_len w) then Err (Truncated at)
@@ -74,7 +74,7 @@ argument_by info at bytes =
     else (if info == 27 then number_at w64 at bytes
     else (if info == 31 then Err (Indefinite at) else Err (Kind at))))))
 
--- the argument of the head at the front, whatever its major type, and the bytes behind the head
+-- the argument of the head at the start, whatever its major type, and the bytes after the head
 unfoldable pub argument_at : ℕ → List ℕ → Result (ℕ × List ℕ) ItemFault
 argument_at end [] = Err (Truncated (place end []))
 argument_at end (first ∷ bytes) = argument_by (first % 32) (place end (first ∷ bytes)) bytes

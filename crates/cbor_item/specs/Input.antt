@@ -7,7 +7,7 @@ pub record Input : Type 0 where
   pub left : List ℕ
   pub end : ℕ
 
--- the place of what is left: how many bytes of the whole input stand before it
+-- the place of what is left: how many bytes of the whole input come before it
 abbrev pub place : ℕ → List ℕ → ℕ
 place end left = end - length left
 
@@ -26,12 +26,12 @@ abbrev pub Reads : {X Y : Type 0} → (X → Y) → Input → Input → Result X
 Reads view old new (Ok x) read = (read ≡ Ok (view x, new.left)) × (new.end ≡ old.end)
 Reads view old new (Err fault) read = (read ≡ Err fault) × (new ≡ old)
 
--- What a call read is spelled in front of what is left.
+-- What a call read is spelled before what is left.
 abbrev pub IsFound : {X Y : Type 0} → (X → Y) → (List ℕ → Y → Type 0) → Input → Input → Result X ItemFault → Type 0
 IsFound view IsText old new result =
     IfOk result (λ x. (text : List ℕ) × IsText text (view x) × (old.left ≡ text ++ new.left))
 
--- What is spelled at the front is what the call read.
+-- What is spelled at the start is what the call read.
 abbrev pub IsOnly : {X Y : Type 0} → (X → Y) → (List ℕ → Y → Type 0) → Input → Input → Result X ItemFault → Type 0
 IsOnly {X} {Y} view IsText old new result =
     (text rest : List ℕ) (value : Y) → IsText text value → old.left ≡ text ++ rest → Reads view old new result (Ok (value, rest))

@@ -38,13 +38,13 @@ unfoldable pub IsItem : ℕ → List ℕ → Type 0
 IsItem zero text = IsHeadWithContent (λ n content. ⊥) text
 IsItem (suc depth) text = IsHeadWithContent (AreAll (IsItem depth)) text
 
--- ---- skipping: what is left behind an item, or the first fault from the left
+-- ---- skipping: what is left after an item, or the first fault from the left
 
--- what is left behind a string of this length, for the item at this place
+-- what is left after a string of this length, for the item at this place
 abbrev pub after_string : ℕ → ℕ → List ℕ → Result (List ℕ) ItemFault
 after_string at len bytes = if nat_lt (length bytes) len then Err (Truncated at) else Ok (drop len bytes)
 
--- what is left behind the content of the item at this place
+-- what is left after the content of the item at this place
 abbrev pub after_content : (ℕ → List ℕ → Result (List ℕ) ItemFault) → ℕ → Major → ℕ → List ℕ → Result (List ℕ) ItemFault
 after_content after_items at Unsigned argument bytes = Ok bytes
 after_content after_items at Negative argument bytes = Ok bytes
@@ -55,26 +55,26 @@ after_content after_items at Map argument bytes = after_items (2 * argument) byt
 after_content after_items at Tag argument bytes = after_items 1 bytes
 after_content after_items at Simple argument bytes = Ok bytes
 
--- what is left behind the head at the front and its content
+-- what is left after the head at the start and its content
 abbrev pub after_head : (ℕ → List ℕ → Result (List ℕ) ItemFault) → ℕ → List ℕ → Result (List ℕ) ItemFault
 after_head after_items end [] = Err (Truncated (place end []))
 after_head after_items end (first ∷ bytes) = do
   x ← argument_at end (first ∷ bytes)
   after_content after_items (place end (first ∷ bytes)) (major_of first) x.0 x.1
 
--- what is left behind n items, one after the other
+-- what is left after n items, one after the other
 unfoldable pub after_all : (List ℕ → Result (List ℕ) ItemFault) → ℕ → List ℕ → Result (List ℕ) ItemFault
 after_all after_one zero bytes = Ok bytes
 after_all after_one (suc n) bytes = do
   rest ← after_one bytes
   after_all after_one n rest
 
--- What is left behind the item at the front. A head is judged before the depth, and the depth before what is inside.
+-- What is left after the item at the start. A head is judged before the depth, and the depth before what is inside.
 unfoldable pub after_item : ℕ → ℕ → List ℕ → Result (List ℕ) ItemFault
 after_item zero end bytes = after_head (λ n content. Err (Deep (place end bytes))) end bytes
 after_item (suc depth) end bytes = after_head (after_all (after_item depth end)) end bytes
 
--- what is left behind n items inside the item at this place, which stands at this depth from below
+-- what is left after n items inside the item at this place, which is at this depth from the innermost level
 unfoldable pub after_inside : ℕ → ℕ → ℕ → ℕ → List ℕ → Result (List ℕ) ItemFault
 after_inside zero end at n bytes = Err (Deep at)
 after_inside (suc depth) end at n bytes = after_all (after_item depth end) n bytes

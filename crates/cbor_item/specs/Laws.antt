@@ -16,7 +16,7 @@ IsLasting (Deep at) = Unit {0}
 abbrev pub AreBytes : List ℕ → Type 0
 AreBytes bytes = AllByRecursion (λ byte. byte < 256) bytes
 
--- What stands before this place is the beginning of such a text: other bytes than those that are left complete it.
+-- What comes before this place is the beginning of such a text: other bytes than those that are left complete it.
 pub record IsBegun (IsText : List ℕ → Type 0) (end : ℕ) (bytes : List ℕ) (at : ℕ) : Type 0 where
   pub before : List ℕ
   pub left : List ℕ

@@ -36,7 +36,7 @@ magnitude_at end bytes = do
   x ← argument_at end bytes
   if nat_lt x.0 (2 ^ 63) then Ok x else Err (Kind (place end bytes))
 
--- the number of a head of this major type, which is at the front
+-- the number of a head of this major type, which is at the start
 abbrev pub int_of : Major → ℕ → List ℕ → Result (ℤ × List ℕ) ItemFault
 int_of Unsigned end bytes = magnitude_at end bytes >>= (λ x. Ok (pos x.0, x.1))
 int_of Negative end bytes = magnitude_at end bytes >>= (λ x. Ok (negsuc x.0, x.1))
@@ -63,7 +63,7 @@ skip_at end bytes = do
   rest ← after_item max_depth end bytes
   Ok (tt, rest)
 
--- the length in the head at the front, without what follows it
+-- the length in the head at the start, without what follows it
 abbrev pub length_at : Major → ℕ → List ℕ → Result ℕ ItemFault
 length_at kind end bytes = do
   x ← argument_of kind end bytes

@@ -15,7 +15,7 @@ string_text kind value = head_text kind (length value) ++ value
 abbrev pub null_text : List ℕ
 null_text = 0xf6 ∷ []
 
--- The text is appended where it fits this capacity. Where it doesn't, its length is told and nothing has changed.
+-- The text is appended where it fits this capacity. Where it doesn't, its length is reported and nothing has changed.
 abbrev pub Writes : ℕ → List ℕ → List ℕ → List ℕ → Result (Unit {0}) Full → Type 0
 Writes capacity text old new (Ok done) = (new ≡ old ++ text) × (length old + length text ≤ capacity)
 Writes capacity text old new (Err full) =

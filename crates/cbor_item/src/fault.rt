@@ -2,7 +2,7 @@
 use thiserror::Error;
 
 /// The first fault from the left. Each variant carries the place of the item that is at fault: how many bytes of the
-/// whole input stand before its head.
+/// whole input come before its head.
 #[derive(Clone, Copy, Debug, PartialEq, Eq, Error)]
 pub enum ItemFault {
     /// The input ends before the head, within the head or within the bytes of the string.
@@ -17,7 +17,7 @@ pub enum ItemFault {
     /// The item is an array, a map or a tag inside eight others.
     #[error("the item at {0} is nested too deep")]
     Deep(usize),
-    /// Bytes stand here where the input should end.
+    /// There are bytes where the input should end.
     #[error("bytes are left at {0}")]
     Trailing(usize),
 }

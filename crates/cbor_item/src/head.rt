@@ -113,14 +113,14 @@ fn argument_by(info: u8, bytes: &[u8], at: usize) -> Result<(u64, &[u8]), ItemFa
     }
 }
 
-/// How many bytes of an input of `end` bytes stand before these, its last ones.
+/// How many bytes of an input of `end` bytes come before these, its last ones.
 pub fn place(bytes: &[u8], end: usize) -> usize
     ensures { result ≡ end - length bytes.now }
 {
     end.saturating_sub(bytes.len())
 }
 
-/// The argument of the head at the front of the last bytes of an input of `end` bytes, and the bytes behind the head.
+/// The argument of the head at the start of the last bytes of an input of `end` bytes, and the bytes after the head.
 #[tactic(auto, unfolding(crate::specs::Head::argument_at))]
 pub fn read_argument(bytes: &[u8], end: usize) -> Result<(u64, &[u8]), ItemFault>
     ensures exact { Gives (λ x. (x.0, x.1.now)) result (argument_at end bytes.now) }

@@ -6,10 +6,10 @@ ghost use Rattle.cbor_item.specs.Item.{after_item, after_inside, after_string};
 use crate::fault::ItemFault;
 use crate::head::{Major, place, read_argument};
 
-/// How many arrays, maps and tags may stand inside one another.
+/// How many arrays, maps and tags may be inside one another.
 pub const MAX_DEPTH: u8 = 8;
 
-/// What is left behind a string of this length, for the item at this place.
+/// What is left after a string of this length, for the item at this place.
 pub fn skip_string(bytes: &[u8], len: u64, at: usize) -> Result<&[u8], ItemFault>
     ensures { Gives (λ x. x.now) result (after_string at len bytes.now) }
 {
@@ -19,8 +19,8 @@ pub fn skip_string(bytes: &[u8], len: u64, at: usize) -> Result<&[u8], ItemFault
     Ok(&bytes[len as usize..])
 }
 
-/// What is left behind the item at the front of the last bytes of an input of `end` bytes, if at most `depth` arrays,
-/// maps and tags stand inside one another.
+/// What is left after the item at the start of the last bytes of an input of `end` bytes, if at most `depth` arrays,
+/// maps and tags are inside one another.
 #[cycle(skip)]
 #[tactic(auto, using(crate::proofs::Skipping::item_is))]
 pub fn skip_item(bytes: &[u8], end: usize, depth: u8) -> Result<&[u8], ItemFault>

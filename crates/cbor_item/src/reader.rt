@@ -65,7 +65,7 @@ impl<'a> Reader<'a> {
         self.read_string(Major::Bytes)
     }
 
-    /// The length of the byte string at the front, as its head tells it. Nothing is read, and the bytes may be cut short.
+    /// The length of the byte string at the start, as its head says it. Nothing is read, and the bytes may be cut short.
     pub fn bytes_len(&self) -> Result<u64, ItemFault>
         ensures { Gives (λ n. n) result (length_at Bytes self.now.end self.now.left) }
     {
@@ -138,7 +138,7 @@ impl<'a> Reader<'a> {
         self.left.first().copied()
     }
 
-    /// The place of what is left: how many bytes of the whole input stand before it.
+    /// The place of what is left: how many bytes of the whole input come before it.
     pub fn place(&self) -> usize
         ensures { result ≡ place self.now.end self.now.left }
     {

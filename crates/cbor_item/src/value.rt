@@ -21,7 +21,7 @@ fn read_magnitude(bytes: &[u8], end: usize) -> Result<(u64, &[u8]), ItemFault>
     Ok((argument, rest))
 }
 
-/// The whole number at the front.
+/// The whole number at the start.
 #[tactic(auto, unfolding(crate::specs::Reading::int_at))]
 pub fn read_int(bytes: &[u8], end: usize) -> Result<(i64, &[u8]), ItemFault>
     ensures { Gives (λ x. (x.0, x.1.now)) result (int_at end bytes.now) }
@@ -43,7 +43,7 @@ pub fn read_int(bytes: &[u8], end: usize) -> Result<(i64, &[u8]), ItemFault>
     }
 }
 
-/// The bytes of the string of this kind at the front.
+/// The bytes of the string of this kind at the start.
 #[tactic(auto, unfolding(crate::specs::Reading::string_at))]
 pub fn read_string(kind: Major, bytes: &[u8], end: usize) -> Result<(&[u8], &[u8]), ItemFault>
     ensures { Gives (λ x. (x.0.now, x.1.now)) result (string_at kind end bytes.now) }
@@ -54,7 +54,7 @@ pub fn read_string(kind: Major, bytes: &[u8], end: usize) -> Result<(&[u8], &[u8
     Ok((&content[..len as usize], rest))
 }
 
-/// What is left behind the null at the front.
+/// What is left after the null at the start.
 #[tactic(auto, unfolding(crate::specs::Reading::null_at))]
 pub fn read_null(bytes: &[u8], end: usize) -> Result<&[u8], ItemFault>
     ensures { Gives (λ x. (tt, x.now)) result (null_at end bytes.now) }

@@ -10,13 +10,13 @@ use Rattle.coap_message.specs.Reading.{seen, options_of, behind_options, payload
 use Rattle.coap_message.proofs.OptionLemmas.{HasNoOption-from_none, none_from_HasNoOption, marker_is_no_option}
 use Rattle.coap_message.proofs.OptionsLemmas.{none_at_end, options_found, options_stop, options_again, options_whole}
 
--- the bytes behind the options are no more than all
+-- the bytes after the options are no more than all
 pub behind_shorter : (bytes rest : List ℕ) → rest ≡ behind_options 0 bytes → length rest ≤ length bytes
 behind_shorter bytes rest is =
     let found = options_found 0 bytes in
     omega (arith, ap length found.1, length-append found.0 (behind_options 0 bytes), ap length is)
 
--- the bytes in front of them are the options
+-- the bytes before them are the options
 pub front_is : (bytes rest : List ℕ) → rest ≡ behind_options 0 bytes
     → take (length bytes - length rest) bytes ≡ (options_found 0 bytes).0
 front_is bytes rest is =
@@ -34,7 +34,7 @@ front_whole bytes rest is =
     subst (λ (b : List ℕ). (options_of 0 b ≡ options_of 0 bytes) × (behind_options 0 b ≡ [])) (sym (front_is bytes rest is))
     (options_whole (options_of 0 bytes) 0 found.0 found.2)
 
--- what is read of a body, by the bytes behind its options
+-- what is read of a body, by the bytes after its options
 pub body_is : (before : ℕ) (bytes rest : List ℕ) (r : Result (List ℕ) CoapFault) → rest ≡ behind_options 0 bytes
     → r ≡ payload_at (before + (length bytes - length rest)) rest
     → seen (λ payload. (options_of 0 bytes, payload)) r ≡ body_at before bytes
@@ -48,7 +48,7 @@ abbrev pub IsReadBody : ℕ → List ℕ → Result (List (ℕ × List ℕ) × L
 IsReadBody before bytes (Ok x) = IsBody bytes x.0 x.1
 IsReadBody before bytes (Err fault) = IsBodyFault before bytes fault
 
--- the cases of what stands behind options
+-- the cases of what comes after options
 behind_found : (before at : ℕ) (spelled rest : List ℕ) (options : List (ℕ × List ℕ)) → IsOptions 0 spelled options
     → HasNoOption (last_number 0 options) rest → at ≡ before + length spelled
     → IsReadBody before (spelled ++ rest) (body_with options at rest)
@@ -82,7 +82,7 @@ body_found before bytes =
     let made = behind_found before at found.0 rest options found.2 none place in
     subst (λ (b : List ℕ). IsReadBody before b (body_with options at rest)) (sym found.1) made
 
--- where no option stands behind these, what is read is what stands there
+-- where no option comes after these, what is read is what is there
 body_behind : (before : ℕ) (bytes spelled rest : List ℕ) (options : List (ℕ × List ℕ)) → bytes ≡ spelled ++ rest
     → IsOptions 0 spelled options → HasNoOption (last_number 0 options) rest
     → body_at before bytes ≡ body_with options (before + length spelled) rest

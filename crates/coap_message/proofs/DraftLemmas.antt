@@ -23,7 +23,7 @@ IsHeader-written h fits = record {
   token_fits = fits;
 }
 
--- the options that are written behind a draft
+-- the options that are written after a draft
 pub options_written : (options : List (ℕ × List ℕ)) (d : Drafted) → IsAscending d.last options
     → (spelled : List ℕ) × ((with_options d options).spelled ≡ d.spelled ++ spelled) × IsOptions d.last spelled options
 options_written [] d ascending = ([], sym (append-nil d.spelled), refl)

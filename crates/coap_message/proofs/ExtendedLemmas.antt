@@ -24,12 +24,12 @@ pub chosen : {A : Type 0} (b : Bool) (x y z : A) → cond b x y ≡ z → ((b �
 chosen true x y z e = inl (refl, e)
 chosen false x y z e = inr (refl, e)
 
--- two pieces in front of the rest
+-- two pieces before the rest
 pub joined : (bytes front others middle rest : List ℕ) → bytes ≡ front ++ others → others ≡ middle ++ rest
     → bytes ≡ (front ++ middle) ++ rest
 joined bytes front others middle rest e f = e ∙ ap (λ (r : List ℕ). front ++ r) f ∙ sym (append_assoc front middle rest)
 
--- what stands in front of the rest, and extends the nibble to n
+-- what comes before the rest, and extends the nibble to n
 pub Extends : ℕ → List ℕ → ℕ → List ℕ → Type 0
 Extends nibble bytes n rest = (more : List ℕ) × (bytes ≡ more ++ rest) × IsExtended nibble more n
 

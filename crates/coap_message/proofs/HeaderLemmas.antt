@@ -249,7 +249,7 @@ refused_token (a ∷ b ∷ []) whole version refused = absurd (whole tt)
 refused_token (a ∷ b ∷ c ∷ []) whole version refused = absurd (whole tt)
 refused_token (a ∷ b ∷ c ∷ d ∷ bytes) whole version refused = token_again a b c d bytes whole version refused
 
--- what stands behind a header is no longer than all
+-- what comes after a header is no longer than all
 pub body_shorter : (bytes : List ℕ) (h : Header) (rest : List ℕ) → header_at bytes ≡ Ok (h, rest)
     → length rest ≤ length bytes
 body_shorter bytes h rest e =

@@ -16,7 +16,7 @@ abbrev pub IsReadMessage : List ℕ → Result Packet CoapFault → Type 0
 IsReadMessage bytes (Ok m) = IsMessage bytes m
 IsReadMessage bytes (Err fault) = IsFault bytes fault
 
--- a header, and the body behind it
+-- a header, and the body after it
 body_then : (bytes header body : List ℕ) (h : Header) (read : Result (List (ℕ × List ℕ) × List ℕ) CoapFault)
     → bytes ≡ header ++ body → IsHeader header h
     → IsReadBody (length header) body read

@@ -75,7 +75,7 @@ pub option_shorter : (last : ℕ) (spelled : List ℕ) (option : ℕ × List ℕ
     → 0 < length spelled
 option_shorter last spelled option is = rw is.spelled_is (omega arith)
 
--- no option is read exactly where none stands
+-- no option is read exactly where there is none
 pub HasNoOption-from_none : (last : ℕ) (bytes : List ℕ) → option_at last bytes ≡ None → HasNoOption last bytes
 HasNoOption-from_none last bytes none spelled rest option is e =
     let some = option_again last spelled option rest is in

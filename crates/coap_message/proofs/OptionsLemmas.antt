@@ -1,4 +1,4 @@
--- Lemmas about options one behind the other.
+-- Lemmas about options one after the other.
 use Rattle.std.proofs.Common.{◌≡◌, ℕ, zero, suc, ◌<◌, ◌≤◌, List, [], ◌∷◌, ◌++◌, length, Some, None, refl, sym, ap, subst, ◌∙◌, arith, append_assoc}
 use Rattle.std.proofs.lemmas.List.{length-append, nil_from_length, append-nil}
 use Rattle.coap_message.specs.Options.{IsOptions, last_number}
@@ -6,20 +6,20 @@ use Rattle.coap_message.specs.Reading.{option_at, options_within, options_of, be
 use Rattle.coap_message.proofs.ExtendedLemmas.{joined}
 use Rattle.coap_message.proofs.OptionLemmas.{option_found, option_again, option_shorter}
 
--- no option stands at the front
+-- no option is at the start
 pub within_none : (n last : ℕ) (bytes : List ℕ) → option_at last bytes ≡ None → options_within n last bytes ≡ ([], bytes)
 unfolding options_within
 within_none zero last bytes e = refl
 within_none (suc n) last bytes e = rw e refl
 
--- an option stands at the front
+-- an option is at the start
 pub within_some : (n last : ℕ) (bytes : List ℕ) (option : ℕ × List ℕ) (rest : List ℕ)
     → option_at last bytes ≡ Some (option, rest)
     → options_within (suc n) last bytes ≡ (option ∷ (options_within n option.0 rest).0, (options_within n option.0 rest).1)
 unfolding options_within
 within_some n last bytes option rest e = rw e refl
 
--- the bytes behind an option are fewer
+-- the bytes after an option are fewer
 pub fewer : (last : ℕ) (bytes : List ℕ) (option : ℕ × List ℕ) (rest : List ℕ) → option_at last bytes ≡ Some (option, rest)
     → length rest < length bytes
 fewer last bytes option rest e =
@@ -56,7 +56,7 @@ within_enough (suc n) (suc m) last bytes le le' =
           ∙ sym (within_some m last bytes x.0 x.1 e)
     ] refl
 
--- all options behind the first
+-- all options after the first
 pub options_step : (last : ℕ) (bytes : List ℕ) (option : ℕ × List ℕ) (rest : List ℕ)
     → option_at last bytes ≡ Some (option, rest)
     → (options_of last bytes ≡ option ∷ options_of option.0 rest) × (behind_options last bytes ≡ behind_options option.0 rest)
@@ -68,7 +68,7 @@ options_step last (first ∷ bytes) option rest e =
     ∙ ap (λ (p : List (ℕ × List ℕ) × List ℕ). (option ∷ p.0, p.1)) same in
     (ap (λ (p : List (ℕ × List ℕ) × List ℕ). p.0) step, ap (λ (p : List (ℕ × List ℕ) × List ℕ). p.1) step)
 
--- where no option stands
+-- where there is no option
 pub options_end : (last : ℕ) (bytes : List ℕ) → option_at last bytes ≡ None
     → (options_of last bytes ≡ []) × (behind_options last bytes ≡ bytes)
 options_end last bytes e =
@@ -97,7 +97,7 @@ pub options_found : (last : ℕ) (bytes : List ℕ)
     → (spelled : List ℕ) × (bytes ≡ spelled ++ behind_options last bytes) × IsOptions last spelled (options_of last bytes)
 options_found last bytes = within_found (length bytes) last bytes
 
--- behind all options stands none
+-- after all options there is none
 within_stops : (n last : ℕ) (bytes : List ℕ) → length bytes ≤ n
     → option_at (last_number last (options_within n last bytes).0) (options_within n last bytes).1 ≡ None
 unfolding options_within

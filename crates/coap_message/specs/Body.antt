@@ -1,4 +1,4 @@
--- What follows a token, and an inner code: options, and behind a marker a payload (RFC 7252, 3).
+-- What follows a token, and an inner code: options, and after a marker a payload (RFC 7252, 3).
 use Rattle.std.specs.Prelude.{◌≡◌, ◌≢◌, ℕ, ◌+◌, List, [], ◌∷◌, ◌++◌, length}
 use Rattle.coap_message.specs.declared.fault.CoapFault.{CoapFault}
 use Rattle.coap_message.specs.declared.fault.CoapFault.TheVariants.{Short, Version, TokenLength, OptionForm, EmptyPayload}
@@ -14,13 +14,13 @@ abbrev pub IsBody : List ℕ → List (ℕ × List ℕ) → List ℕ → Type 0
 IsBody bytes options payload =
     (spelled : List ℕ) × (bytes ≡ spelled ++ payload_field payload) × IsOptions 0 spelled options
 
--- neither the end stands there, nor a payload's marker, nor an option behind one of the number `last`
+-- there is neither the end, nor a payload's marker, nor an option after one of the number `last`
 abbrev pub IsStray : ℕ → List ℕ → Type 0
 IsStray last [] = ⊥
 IsStray last (byte ∷ bytes) = (byte ≢ 255) × HasNoOption last (byte ∷ bytes)
 
--- The first fault of these bytes, which stand behind `before` others: where an option should stand none does, or nothing
--- stands behind a payload's marker.
+-- The first fault of these bytes, which come after `before` others: there is none where an option should be, or nothing
+-- comes after a payload's marker.
 abbrev pub IsBodyFault : ℕ → List ℕ → CoapFault → Type 0
 IsBodyFault before bytes (OptionForm at) =
     (spelled rest : List ℕ) × (options : List (ℕ × List ℕ)) × (bytes ≡ spelled ++ rest) × IsOptions 0 spelled options

@@ -31,7 +31,7 @@ pub record IsMessage (bytes : List ℕ) (m : Packet) : Type 0 where
   pub body_is : IsBody body m.options m.payload
 
 -- The header or the token is cut: there are less than four bytes, or the nibble isn't 15 and no token of the length that
--- it begins stands behind them.
+-- it begins comes after them.
 abbrev pub IsCut : List ℕ → Type 0
 IsCut (first ∷ code ∷ high ∷ low ∷ bytes) =
     (first % 16 ≢ 15)
@@ -45,14 +45,14 @@ HasRefusedToken bytes =
     ⊎ ((spelled token rest : List ℕ) × IsSized (slice_index bytes 0 % 16) spelled token × (drop 4 bytes ≡ spelled ++ rest)
     × (600 < length token))
 
--- a header and a token, and behind them this fault
+-- a header and a token, and after them this fault
 abbrev pub HasBodyFault : List ℕ → CoapFault → Type 0
 HasBodyFault bytes fault =
     (header body : List ℕ) × (h : Header) × (bytes ≡ header ++ body) × IsHeader header h
     × IsBodyFault (length header) body fault
 
 -- The fault applies, and none before it in this order: cut short, another version than 1, a refused length of the token,
--- no option where one should stand, a marker with nothing behind it.
+-- no option where one should be, a marker with nothing after it.
 abbrev pub IsFault : List ℕ → CoapFault → Type 0
 IsFault bytes Short = IsCut bytes
 IsFault bytes Version = (IsCut bytes → ⊥) × (slice_index bytes 0 / 64 ≢ 1)
@@ -60,7 +60,7 @@ IsFault bytes TokenLength = (IsCut bytes → ⊥) × (slice_index bytes 0 / 64 �
 IsFault bytes (OptionForm at) = HasBodyFault bytes (OptionForm at)
 IsFault bytes EmptyPayload = HasBodyFault bytes EmptyPayload
 
--- what an inner message says: code, options and payload, as they stand in an OSCORE plaintext (RFC 8613, 5.3)
+-- what an inner message says: code, options and payload, as they are in an OSCORE plaintext (RFC 8613, 5.3)
 pub record InnerPacket : Type 0 where
   pub code : ℕ
   pub options : List (ℕ × List ℕ)
@@ -74,7 +74,7 @@ abbrev pub IsInner : List ℕ → InnerPacket → Type 0
 IsInner [] m = ⊥
 IsInner (code ∷ body) m = (code ≡ m.code) × IsBody body m.options m.payload
 
--- there is no code, or behind it this fault
+-- there is no code, or after it this fault
 abbrev pub IsInnerFault : List ℕ → CoapFault → Type 0
 IsInnerFault [] fault = fault ≡ Short
 IsInnerFault (code ∷ body) fault = IsBodyFault 1 body fault

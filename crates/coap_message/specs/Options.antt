@@ -2,7 +2,7 @@
 use Rattle.std.specs.Prelude.{◌≡◌, ℕ, ◌+◌, ◌-◌, ◌*◌, ◌%◌, ◌≤◌, List, [], ◌∷◌, ◌++◌, length}
 use Rattle.coap_message.specs.Extended.{IsExtended, IsSized, nibble_of, extension}
 
--- What is spelled is this option, behind one of the number `last`: two nibbles, what extends the first, and the value
+-- What is spelled is this option, after one of the number `last`: two nibbles, what extends the first, and the value
 -- with what extends its length. Numbers are sums of deltas, and have 16 bits.
 pub record IsOption (last : ℕ) (spelled : List ℕ) (option : ℕ × List ℕ) : Type 0 where
   pub delta_nibble : ℕ
@@ -16,7 +16,7 @@ pub record IsOption (last : ℕ) (spelled : List ℕ) (option : ℕ × List ℕ)
   pub number_is : option.0 ≡ last + delta
   pub in_range : option.0 ≤ 65535
 
--- what is spelled is these options, one behind the other, behind one of the number `last`
+-- what is spelled is these options, one after the other, after one of the number `last`
 abbrev pub IsOptions : ℕ → List ℕ → List (ℕ × List ℕ) → Type 0
 IsOptions last spelled [] = spelled ≡ []
 IsOptions last spelled (option ∷ options) =
@@ -28,12 +28,12 @@ abbrev pub last_number : ℕ → List (ℕ × List ℕ) → ℕ
 last_number last [] = last
 last_number last (option ∷ options) = last_number option.0 options
 
--- no option stands at the front, behind one of the number `last`
+-- no option is at the start, after one of the number `last`
 abbrev pub HasNoOption : ℕ → List ℕ → Type 0
 HasNoOption last bytes =
     (spelled rest : List ℕ) (option : ℕ × List ℕ) → IsOption last spelled option → bytes ≡ spelled ++ rest → ⊥
 
--- the form of an option behind one of the number `last`
+-- the form of an option after one of the number `last`
 abbrev pub option_spelling : ℕ → ℕ → List ℕ → List ℕ
 option_spelling last number value =
     (16 * nibble_of (number - last) + nibble_of (length value))

@@ -1,4 +1,4 @@
-//! What follows a token: options, and behind a marker a payload (RFC 7252, 3).
+//! What follows a token: options, and after a marker a payload (RFC 7252, 3).
 ghost use Rattle.std.specs.Prelude.{◌≡◌, ◌≤◌, ◌+◌, ◌++◌, ◌<◌, ◌^◌, length, []};
 ghost use Rattle.arrayvec.specs.ArrayVec.{array_vec_len};
 ghost use Rattle.coap_message.specs.Body.{payload_field};
@@ -39,7 +39,7 @@ fn read_payload(at: usize, bytes: &[u8]) -> Result<&[u8], CoapFault>
     }
 }
 
-/// The options and the payload of these bytes, which stand behind `before` others.
+/// The options and the payload of these bytes, which come after `before` others.
 #[tactic(auto, unfolding(crate::specs::Reading::body_at))]
 pub(crate) fn read_body(before: usize, bytes: &[u8]) -> Result<Body<'_>, CoapFault>
     requires { before + length bytes.now < 2 ^ 64 }
@@ -62,7 +62,7 @@ pub(crate) fn payload_length(payload: &[u8]) -> usize
     }
 }
 
-/// Appends a payload behind its marker, or nothing where it is empty.
+/// Appends a payload after its marker, or nothing where it is empty.
 pub(crate) fn push_payload(out: &mut ArrayVec<u8, 1280>, payload: &[u8])
     requires { array_vec_len out.old + length (payload_field payload.now) ≤ 1280 }
     ensures { out.new.items ≡ out.old.items ++ payload_field payload.now }

@@ -7,7 +7,7 @@ ghost use Rattle.coap_message.specs.Reading.{extended_at, sized_at};
 
 use arrayvec::ArrayVec;
 
-/// The number that a nibble and the bytes behind it begin with, and what follows.
+/// The number that a nibble and the bytes after it begin with, and what follows.
 #[tactic(auto, unfolding(crate::specs::Reading::extended_at))]
 pub(crate) fn read_extended(nibble: u8, bytes: &[u8]) -> Option<(usize, &[u8])>
     ensures value { option_map (λ x. (x.0, x.1.now)) result ≡ extended_at nibble bytes.now }
@@ -30,7 +30,7 @@ pub(crate) fn read_extended(nibble: u8, bytes: &[u8]) -> Option<(usize, &[u8])>
     }
 }
 
-/// The value whose length a nibble and the bytes behind it begin with, and what follows.
+/// The value whose length a nibble and the bytes after it begin with, and what follows.
 #[tactic(auto, unfolding(crate::specs::Reading::sized_at))]
 pub(crate) fn read_sized(nibble: u8, bytes: &[u8]) -> Option<(&[u8], &[u8])>
     ensures { option_map (λ x. (x.0.now, x.1.now)) result ≡ sized_at nibble bytes.now }

@@ -13,15 +13,15 @@ pub enum CoapFault {
     /// The token's length has the reserved form, or is over 600 bytes.
     #[error("the token's length is reserved or over 600")]
     TokenLength,
-    /// At this place, counted in bytes from the start, an option, the marker or the end should stand.
+    /// At this place, counted in bytes from the start, an option, the marker or the end should be.
     #[error("no option at {0}")]
     OptionForm(usize),
-    /// Nothing stands behind the payload's marker.
+    /// Nothing comes after the payload's marker.
     #[error("the payload is empty")]
     EmptyPayload,
 }
 
-/// The message with this piece would have so many bytes, more than the 1280 of a datagram.
+/// The message with this piece would have this many bytes, more than the 1280 of a datagram.
 #[derive(Clone, Copy, Debug, PartialEq, Eq, Error)]
 #[error("the message would have {0} bytes")]
 pub struct TooLong(pub usize);

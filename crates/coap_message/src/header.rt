@@ -54,7 +54,7 @@ fn kind_bits(kind: Kind) -> u8
     }
 }
 
-// The fault where no token stands behind the header: its length is reserved, or it is cut.
+// The fault where no token comes after the header: its length is reserved, or it is cut.
 fn fault_without_token(first: u8) -> CoapFault
     ensures { result ≡ fault_at first }
 {
@@ -67,7 +67,7 @@ fn fault_without_token(first: u8) -> CoapFault
     }
 }
 
-/// The header and the token at the front, and what follows.
+/// The header and the token at the start, and what follows.
 #[tactic(auto, unfolding(crate::specs::Reading::header_at))]
 pub(crate) fn read_header(bytes: &[u8]) -> Result<(Head<'_>, &[u8]), CoapFault>
     ensures { seen (λ x. (header_of x.0, x.1.now)) result ≡ header_at bytes.now }

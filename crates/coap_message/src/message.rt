@@ -5,7 +5,7 @@ ghost use Rattle.coap_message.specs.Reading.{behind_options};
 use crate::header::Kind;
 use crate::option::Options;
 
-/// A message in its datagram (RFC 7252, 3). `options` are the options' bytes, without the marker behind them.
+/// A message in its datagram (RFC 7252, 3). `options` are the options' bytes, without the marker after them.
 #[derive(Clone, Copy, Debug, PartialEq, Eq)]
 pub struct Message<'a> {
     pub kind: Kind,

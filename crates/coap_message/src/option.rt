@@ -17,7 +17,7 @@ pub fn is_critical(number: u16) -> bool
     number % 2 == 1
 }
 
-/// The option that stands at the front, behind one of the number `last`, and what follows.
+/// The option that is at the start, after one of the number `last`, and what follows.
 #[tactic(auto, unfolding(crate::specs::Reading::option_at))]
 pub(crate) fn read_option(last: u16, bytes: &[u8]) -> Option<(u16, &[u8], &[u8])>
     ensures { option_map (λ x. ((x.0, x.1.now), x.2.now)) result ≡ option_at last bytes.now }
@@ -36,7 +36,7 @@ pub(crate) fn read_option(last: u16, bytes: &[u8]) -> Option<(u16, &[u8], &[u8])
     }
 }
 
-/// The bytes behind all options.
+/// The bytes after all options.
 pub(crate) fn skip_options(bytes: &[u8]) -> &[u8]
     ensures { result.now ≡ behind_options 0 bytes.now }
 {
@@ -49,7 +49,7 @@ pub(crate) fn skip_options(bytes: &[u8]) -> &[u8]
     rest
 }
 
-/// How many bytes an option is written with, behind one of the number `last`.
+/// How many bytes an option is written with, after one of the number `last`.
 pub(crate) fn option_length(last: u16, number: u16, value: &[u8]) -> usize
     requires { last ≤ number }
     ensures { result ≡ length (option_spelling last number value.now) }
@@ -58,7 +58,7 @@ pub(crate) fn option_length(last: u16, number: u16, value: &[u8]) -> usize
     1 + extension_length(delta) + extension_length(value.len()) + value.len()
 }
 
-/// Appends an option, behind one of the number `last`.
+/// Appends an option, after one of the number `last`.
 pub(crate) fn push_option(out: &mut ArrayVec<u8, 1280>, last: u16, number: u16, value: &[u8])
     requires above { last ≤ number }
     requires room { array_vec_len out.old + length (option_spelling last number value.now) ≤ 1280 }

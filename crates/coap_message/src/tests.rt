@@ -43,7 +43,7 @@ fn the_examples_of_the_standard_are_read(rt: HostRuntime) -> Result<(), Fail> {
     Ok(())
 }
 
-// Lengths of tokens on both sides of each form of RFC 8974, 2.1, and what stands before the token.
+// Lengths of tokens on both sides of each form of RFC 8974, 2.1, and what comes before the token.
 #[test]
 fn tokens_are_spelled_by_their_length(rt: HostRuntime) -> Result<(), Fail> {
     let cases: [(usize, &[u8]); 7] = [
@@ -76,7 +76,7 @@ fn tokens_are_spelled_by_their_length(rt: HostRuntime) -> Result<(), Fail> {
     Ok(())
 }
 
-// Deltas and lengths on both sides of each form of RFC 7252, 3.1, and what stands before the value.
+// Deltas and lengths on both sides of each form of RFC 7252, 3.1, and what comes before the value.
 #[test]
 fn options_are_spelled_by_delta_and_length(rt: HostRuntime) -> Result<(), Fail> {
     let cases: [(u16, usize, &[u8]); 8] = [

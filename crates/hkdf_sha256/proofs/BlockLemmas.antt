@@ -5,7 +5,7 @@ use Rattle.std.proofs.lemmas.List.{drop-replicate}
 use Rattle.std.proofs.lemmas.List.Edits.{map_over_more}
 use Rattle.hkdf_sha256.specs.Hmac.{xor_each}
 
--- zeros whose front is written over
+-- zeros whose first bytes are overwritten
 pub zeros_behind : (bytes : List ℕ) (n : ℕ) → bytes ++ drop (length bytes) (replicate n 0) ≡ bytes ++ replicate (n - length bytes) 0
 zeros_behind bytes n = ap (λ zeros. bytes ++ zeros) (drop-replicate (length bytes) n 0)
 

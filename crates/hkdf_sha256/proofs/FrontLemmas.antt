@@ -18,7 +18,7 @@ blocks_begin prk info a (suc k) =
       rw next (output_blocks-next prk info (a + k) ∙ ap (λ front. front ++ last) before.1 ∙ append_assoc (output_blocks prk info a) before.0 last),
     )
 
--- a shorter output is the front of a longer one
+-- a shorter output is a prefix of a longer one
 pub shorter_output : (prk info : List ℕ) (l m : ℕ) → l ≤ m
     → output_keying_material prk info l ≡ take l (output_keying_material prk info m)
 shorter_output prk info l m below =

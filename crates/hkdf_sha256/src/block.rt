@@ -7,7 +7,7 @@ use sha2::{Digest, Sha256};
 /// The bytes of a block of SHA-256.
 pub(crate) const BLOCK: usize = 64;
 
-// The bytes with zeros behind them.
+// The bytes with zeros after them.
 fn zero_padded(bytes: &[u8]) -> [u8; BLOCK]
     requires { length bytes.now ≤ 64 }
     ensures { result ≡ bytes.now ++ replicate (64 - length bytes.now) 0 }

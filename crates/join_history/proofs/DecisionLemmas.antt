@@ -1,4 +1,4 @@
--- What stands twice in no legal history, and what its Grants keep.
+-- What occurs twice in no legal history, and what its Grants keep.
 use Rattle.std.proofs.Common.{◌≡◌, ℕ, List, ◌∷◌, ◌++◌, Contains, Some, refl, subst}
 use Rattle.edge_traits.specs.declared.names.PledgeId.{PledgeId}
 use Rattle.journal_text.specs.declared.entry.Entry.{Entry}

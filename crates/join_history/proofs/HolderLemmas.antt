@@ -25,7 +25,7 @@ due_holder h t a p q one later (inr free) held = elim (pledge_decides p q) [
   | inr other ↦ absurd (free.1.free (q, (λ e. other (sym e)), held))
 ]
 
--- whoever holds an address behind its Grant got it by the Grant
+-- whoever holds an address after its Grant got it by the Grant
 grant_holder : (h : List Entry) (e : Entry) (t a : ℕ) (p q : PledgeId) → HasOneHolder h → MayFollow h e
     → last_time (h ++ e ∷ []) ≤ t → IsHoldingGrant h e t a p → Holds h t a q → p ≡ q
 grant_holder h e t a p q one may later grant held =

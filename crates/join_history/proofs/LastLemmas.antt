@@ -9,7 +9,7 @@ pub IsLast-contains : {X : Type 0} (P : X → Type 0) (xs : List X) (x : X) → 
 IsLast-contains P xs x last =
     subst (λ l. Contains l x) (sym last.place) (Contains-middle last.before x last.after)
 
--- an element that has P doesn't stand where none has it
+-- an element that has P isn't where none has it
 none_there : {X : Type 0} (P : X → Type 0) (xs before after : List X) (x : X) → xs ≡ before ++ x ∷ after → P x
     → All (λ y. P y → ⊥) xs → ⊥
 none_there P xs before after x is holds none =

@@ -92,7 +92,7 @@ pub record IsHoldingGrant (h : List Entry) (e : Entry) (t a : ℕ) (p : PledgeId
   pub pledge : pledge_of h context ≡ Some p
   pub later : t < until + 3600
 
--- a Grant that is in effect stands in the history
+-- a Grant that is in effect is in the history
 pub IsInEffect-contains : (h : List Entry) (p : PledgeId) (e : Entry) → IsInEffect h p e → Contains h e
 IsInEffect-contains h p e effect =
     subst (λ g. Contains g e) (sym effect.place) (Contains-middle effect.before e effect.after)

@@ -4,13 +4,13 @@ use Rattle.std.proofs.lemmas.List.{append-nil, same_from_push}
 use Rattle.std.proofs.lemmas.List.Elements.{Contains-append_right, All-nil, All-cons, All-contains}
 
 -- a list that has an element has a last one
-pub last_exists : {X : Type 0} (x : X) (xs : List X) → (front : List X) × (last : X) × (x ∷ xs ≡ front ++ last ∷ [])
+pub last_exists : {X : Type 0} (x : X) (xs : List X) → (prefix : List X) × (last : X) × (x ∷ xs ≡ prefix ++ last ∷ [])
 last_exists x [] = ([], x, refl)
 last_exists x (y ∷ ys) =
     let rest = last_exists y ys in
     (x ∷ rest.0, rest.1, ap (λ l. x ∷ l) rest.2)
 
--- what holds of a list holds of the list with more behind it, if each push keeps it
+-- what holds of a list holds of the list with more after it, if each push keeps it
 holds_behind : {X : Type 0} (P : List X → Type 0) → ((xs : List X) (x : X) → P xs → P (xs ++ x ∷ []))
     → (xs ys : List X) → P xs → P (xs ++ ys)
 holds_behind P step xs [] p = rw append-nil p

@@ -47,7 +47,7 @@ lease_in_effect h p time c n a until last = record {
       (λ x has released. All-contains (λ y. IsLeaseOf h p y → ⊥) last.after x last.none_after has (inr released));
 }
 
--- a Grant stands at one place of a legal history
+-- a Grant is at one place of a legal history
 one_grant_place : (h before after before' after' : List Entry) (time c n a until : ℕ) → IsLegal h
     → h ≡ before ++ Grant time c n a until ∷ after → h ≡ before' ++ Grant time c n a until ∷ after' → before ≡ before'
 one_grant_place h before after before' after' time c n a until legal is is' =
@@ -70,9 +70,9 @@ pub last_lease : (h : List Entry) (p : PledgeId) (time c n a until : ℕ) → Is
     → IsLast (IsLeaseOf h p) h (Grant time c n a until)
 last_lease h p time c n a until legal last effect =
     let grant = Grant time c n a until in
-    let front = one_grant_place h effect.before effect.after last.before last.after time c n a until legal effect.place last.place in
+    let prefix = one_grant_place h effect.before effect.after last.before last.after time c n a until legal effect.place last.place in
     let is : last.before ++ grant ∷ effect.after ≡ last.before ++ grant ∷ last.after =
-    ap (λ l. l ++ grant ∷ effect.after) (sym front) ∙ sym effect.place ∙ last.place in
+    ap (λ l. l ++ grant ∷ effect.after) (sym prefix) ∙ sym effect.place ∙ last.place in
     let back = same_after last.before effect.after last.after grant is in
     let none = subst (All (λ x. IsReleaseOf p x → ⊥)) back effect.none_since in record {
       before = last.before;

@@ -43,6 +43,6 @@ pub last_time-lt : (h : List Entry) → IsLegal h → last_time h < 2 ^ 40
 last_time-lt =
     legal_induction (λ h. last_time h < 2 ^ 40) (omega arith) (λ h e legal may fits. last_time-push-lt h e may fits)
 
--- the moment of a decision behind a legal history is timely
+-- the moment of a decision after a legal history is timely
 pub IsTimely-moment : (h : List Entry) (now : ℕ) → IsLegal h → IsTimely h (moment h now)
 IsTimely-moment h now legal = let fits = last_time-lt h legal in record { not_before = omega arith; fits = omega arith }

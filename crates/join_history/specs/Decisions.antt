@@ -1,4 +1,4 @@
--- The numbers of a context, and which numbers are fresh (RFC 8613, 7.4, told of the whole list).
+-- The numbers of a context, and which numbers are fresh (RFC 8613, 7.4, over the whole list).
 use Rattle.std.specs.Prelude.{◌≡◌, ℕ, ◌+◌, ◌<◌, List, Some, Any}
 use Rattle.edge_traits.specs.declared.names.PledgeId.{PledgeId}
 use Rattle.journal_text.specs.declared.entry.Entry.{Entry}

@@ -1,4 +1,4 @@
--- Which pledge holds which short address. An address stays held for a grace of 3600 seconds behind its lease's end.
+-- Which pledge holds which short address. An address stays held for a grace of 3600 seconds after its lease's end.
 use Rattle.std.specs.Prelude.{◌≡◌, ◌≢◌, ◌==◌, if◌then◌else◌, ℕ, ◌+◌, ◌-◌, ◌*◌, ◌^◌, ◌<◌, ◌≤◌, ◌⊎◌, List, ◌∷◌, ◌++◌, Option, Some, None, All, fold}
 use Rattle.edge_traits.specs.declared.names.PledgeId.{PledgeId}
 use Rattle.journal_text.specs.declared.settings.Settings.{Settings}
@@ -16,7 +16,7 @@ settings_after before _ = before
 abbrev pub current_settings : List Entry → Option Settings
 current_settings h = fold settings_after None h
 
--- The second at which a lease ends that begins at this time and has so many hours. With 0 hours it has no end.
+-- The second at which a lease of `hours` hours ends that begins at this time. With 0 hours it has no end.
 abbrev pub lease_end : ℕ → ℕ → ℕ
 lease_end time hours = if hours == 0 then 2 ^ 64 - 1 else time + 3600 * hours
 
@@ -30,7 +30,7 @@ abbrev pub IsReleaseOf : PledgeId → Entry → Type 0
 IsReleaseOf p (Release time id) = id ≡ p
 IsReleaseOf p _ = ⊥
 
--- the entry stands in the history, and no Release of the pledge comes after it
+-- the entry is in the history, and no Release of the pledge comes after it
 pub record IsInEffect (h : List Entry) (p : PledgeId) (e : Entry) : Type 0 where
   pub before : List Entry
   pub after : List Entry

@@ -42,9 +42,9 @@ has_there id (x ∷ xs) at h = elim (cases_Bool (has_id id x)) [
   | inr there ↦ let p = some_suc (place_of id xs) at (rw there at h) in rw p.2 (has_there id xs p.0 p.1)
 ]
 
--- ---- without one that stands twice
+-- ---- without one that occurs twice
 
--- a place behind rows that don't have it
+-- a place after rows that don't have it
 first_behind : (id : PledgeId) (before rest : List Row) → place_of id before ≡ None → place_of id (before ++ rest) ≡ option_map (λ k. length before + k) (place_of id rest)
 first_behind id [] rest h = same (place_of id rest)
   where
@@ -64,7 +64,7 @@ not_before : (row : Row) (o : Option ℕ) (rest : Option PledgeId) → (if is_so
 not_before row None rest h = (refl, h)
 not_before row (Some at) rest h = cc h
 
--- each row's place is where it stands
+-- each row's place is where it is
 placed : (before rest : List Row) → twice_after before rest ≡ None → (id : PledgeId) (i : ℕ) → HasIdAt id rest i → place_of id (before ++ rest) ≡ Some (length before + i)
 placed before [] h id i has = cc has
 placed before (row ∷ rest) h id zero has =

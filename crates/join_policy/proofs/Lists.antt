@@ -10,12 +10,12 @@ pub count_of_view : (vs : List Value) → count_of (items_view vs) ≡ length vs
 count_of_view [] = refl
 count_of_view (v ∷ vs) = ap suc (count_of_view vs)
 
--- some elements and those of an option behind them
+-- some elements and those of an option after them
 abbrev pub after_some : {X : Type 0} → List X → Option (List X) → Option (List X)
 after_some xs None = None
 after_some xs (Some ys) = Some (xs ++ ys)
 
--- some rows and those of a result behind them
+-- some rows and those of a result after them
 abbrev pub after_rows : List Row → Result (List Row) InventoryFault → Result (List Row) InventoryFault
 after_rows xs (Err e) = Err e
 after_rows xs (Ok ys) = Ok (xs ++ ys)

@@ -82,12 +82,12 @@ index_push m n rows row index absent updates = λ id.
     (λ same. same_place id row.id rows (sym ((bytes_eq-Decides row.id.0 id.0).0 same)) ∙ new))
     ∙ sym (place_of-push id rows row)
 
--- one row further, where its identifier doesn't stand before it
+-- one row further, where its identifier isn't before it
 pub twice_more : (before rest : List Row) (row : Row) → place_of row.id before ≡ None
     → twice_after before (row ∷ rest) ≡ twice_after (before ++ row ∷ []) rest
 twice_more before rest row h = rw h refl
 
--- its identifier stands before it
+-- its identifier comes before it
 pub twice_here : (before rest : List Row) (row : Row) (at : ℕ) → place_of row.id before ≡ Some at → twice_after before (row ∷ rest) ≡ Some row.id
 twice_here before rest row at h = rw h refl
 

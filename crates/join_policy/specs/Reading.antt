@@ -1,4 +1,4 @@
--- Reading an inventory. The first fault is told: those of the document's own fields in the table's order, then those of
+-- Reading an inventory. The first fault is reported: those of the document's own fields in the table's order, then those of
 -- its rows from the first on.
 use Rattle.std.specs.Prelude.{◌≡◌, ◌⊎◌, ℕ, ◌+◌, ◌-◌, true, false, nat_lt, if◌then◌else◌, List, [], ◌∷◌, length, replicate, Option, Some, None, unwrap_or, ok_or, option_map, Result, Ok, Err}
 use Rattle.std.specs.Str.{is_utf8}

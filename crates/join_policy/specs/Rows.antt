@@ -16,7 +16,7 @@ abbrev pub place_of : PledgeId → List Row → Option ℕ
 place_of id [] = None
 place_of id (row ∷ rows) = if has_id id row then Some 0 else option_map suc (place_of id rows)
 
--- the identifier of the first of these rows that stands in an earlier one
+-- the identifier of the first of these rows that is in an earlier one
 abbrev pub twice_after : List Row → List Row → Option PledgeId
 twice_after before [] = None
 twice_after before (row ∷ rows) =

@@ -9,7 +9,7 @@ infixl 10 ◌>>=◌
 abbrev pub ◌>>=◌ : {A B : Type 0} → Option A → (A → Option B) → Option B
 o >>= f = option_and_then f o
 
--- hex text of so many bytes, in either case
+-- hex text of `size` bytes, in either case
 abbrev pub bytes_in : ℕ → Data → Option (List ℕ)
 bytes_in size d = as_str d >>= λ text. result_ok (decode_sized text size)
 

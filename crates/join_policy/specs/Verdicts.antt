@@ -20,7 +20,7 @@ abbrev pub is_other : List ℕ → Option (List ℕ) → Bool
 is_other own None = false
 is_other own (Some named) = not (bytes_eq named own)
 
--- the identifier stands in the list
+-- the identifier is in the list
 abbrev pub is_refused : PledgeId → List PledgeId → Bool
 is_refused id ids = list_any (λ other. bytes_eq other.0 id.0) ids
 

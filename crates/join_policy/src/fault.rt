@@ -15,7 +15,7 @@ pub enum InventoryFault {
     /// document itself.
     #[error("field {1} of row {0}")]
     Field(u32, FieldName),
-    /// There are so many rows, more than 16,384.
+    /// There are this many rows, more than 16,384.
     #[error("{0} rows")]
     TooMany(usize),
     /// Two rows have this identifier.

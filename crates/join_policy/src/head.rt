@@ -20,7 +20,7 @@ pub struct Pool {
     pub count: u16,
 }
 
-/// What pledges are told beside keys and address.
+/// What pledges learn beside keys and address.
 #[derive(Drop)]
 pub struct Told {
     pub rate: Option<u32>,

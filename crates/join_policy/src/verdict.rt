@@ -53,7 +53,7 @@ pub fn is_other(own: &[u8], named: Option<&[u8]>) -> bool
     }
 }
 
-/// Whether the identifier stands in the list.
+/// Whether the identifier is in the list.
 pub fn is_refused(id: PledgeId, ids: &[PledgeId]) -> bool
     ensures { result ≡ is_refused id ids.now }
 {

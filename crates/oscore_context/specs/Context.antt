@@ -21,7 +21,7 @@ abbrev pub registrar_key : Side → Keys → List ℕ
 registrar_key Registrar keys = keys.sender
 registrar_key Pledge keys = keys.recipient
 
--- what a side knows: which side it is, the pledge, its keys, and the digest by which the context is told from others
+-- what a side knows: which side it is, the pledge, its keys, and the digest that distinguishes the context
 pub record Known : Type 0 where
   pub side : Side
   pub id : PledgeId

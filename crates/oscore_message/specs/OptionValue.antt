@@ -81,7 +81,7 @@ has_context flags = flags / 16 % 2 == 1
 abbrev pub has_kid : ℕ → Bool
 has_kid flags = flags / 8 % 2 == 1
 
--- what stands after the kid context
+-- what comes after the kid context
 abbrev pub after_context : Bool → List ℕ → List ℕ
 after_context true (len ∷ rest) = drop len rest
 after_context true [] = []

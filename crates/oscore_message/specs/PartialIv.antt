@@ -17,7 +17,7 @@ partial_iv number = shortest (five_bytes number)
 unfoldable pub number_of : List ℕ → ℕ
 number_of bytes = from_be_bytes w64 (replicate (8 - length bytes) 0 ++ bytes)
 
--- a zero stands before another byte
+-- a zero comes before another byte
 abbrev pub has_leading_zero : List ℕ → Bool
 has_leading_zero [] = false
 has_leading_zero (byte ∷ []) = false

@@ -35,7 +35,7 @@ pub enum AnswerFault {
     /// The code isn't 2.04.
     #[error("no answer")]
     NotAnswer,
-    /// The OSCORE option doesn't stand exactly once.
+    /// The OSCORE option doesn't occur exactly once.
     #[error("not one OSCORE option")]
     NoOscore,
     /// The option's value has its first fault at this place.

@@ -14,7 +14,7 @@ pub enum FindFault {
     /// The kind is neither CON nor NON, the code isn't 0.02, or a critical option is unknown.
     #[error("no request")]
     NotRequest,
-    /// The OSCORE option doesn't stand exactly once.
+    /// The OSCORE option doesn't occur exactly once.
     #[error("not one OSCORE option")]
     NoOscore,
     /// The option's value has its first fault at this place, or it has no Partial IV and the place is 0.

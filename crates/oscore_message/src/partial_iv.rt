@@ -5,7 +5,7 @@ ghost use Rattle.oscore_message.specs.PartialIv.{shortest, partial_iv, number_of
 use crate::bytes::append;
 use arrayvec::ArrayVec;
 
-/// Whether a zero stands before another byte.
+/// Whether a zero comes before another byte.
 pub(crate) fn begins_with_zero(bytes: &[u8]) -> bool
     ensures { result ≡ has_leading_zero bytes.now }
 {

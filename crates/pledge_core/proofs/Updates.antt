@@ -20,7 +20,7 @@ ok_is q r e = cc
 pub same_update : (s : Session) (bytes : List ℕ) (q r : Request) → IsUpdate s bytes q → IsUpdate s bytes r → q ≡ r
 same_update s bytes q r a b = ok_is q r (finding_only (0x4a ∷ 0x52 ∷ 0x43 ∷ []) bytes (Ok q) (Ok r) a.found b.found)
 
--- what isn't judged fresh by a list that stands isn't fresh
+-- what isn't judged fresh by a list that the window stands for isn't fresh
 abbrev pub IsNever : List ℕ → ℕ → Judged → Type 0
 IsNever numbers n judged = IsJudged numbers n judged → IsJudged numbers n Fresh → ⊥
 

@@ -82,7 +82,7 @@ wrong_length key bytes wrong client h =
     let len = token_len key bytes client h in
     elim wrong [ inl short ↦ omega (arith, len, short) | inr long ↦ omega (arith, len, long, h.token) ]
 
--- a token's counter stands in its first bytes
+-- a token's counter is in its first bytes
 same_counter : (key bytes counter sealing : List ℕ) (count : ℕ) (client : Client) → bytes ≡ counter ++ sealing → length counter ≡ 8 → count < 2 ^ 64
     → to_be_bytes w64 count ≡ counter → IsToken key bytes client → (count ≡ client.count) × (sealing ≡ sealed key (nonce_of client.count) [] (plain_of client))
 same_counter key bytes counter sealing count client parts len fits is h =

@@ -7,7 +7,7 @@ pub enum SealFault {
     /// The client's token has this many bytes, more than 561.
     #[error("the client's token has {0} bytes")]
     TooLong(usize),
-    /// The counter stands at its end, 2^40.
+    /// The counter is at its end, 2^40.
     #[error("all {0} counters are spent")]
     Spent(u64),
 }

@@ -178,7 +178,7 @@ impl Sealer {
         self.count
     }
 
-    /// Whether the counter stands at its end.
+    /// Whether the counter is at its end.
     pub fn is_spent(&self) -> bool
         ensures { IsTrue result ↔ (self.now.count ≡ end40) }
     {

@@ -14,7 +14,7 @@ abbrev pub StandsFor : List ℕ → Option (ℕ × ℕ) → Type 0
 StandsFor numbers None = numbers ≡ []
 StandsFor numbers (Some parts) = AreBitsOf numbers parts.0 parts.1
 
--- bit 0 is set, and no bit stands at a place above the greatest number
+-- bit 0 is set, and no bit is at a place above the greatest number
 pub record AreParts (greatest bits : ℕ) : Type 0 where
   pub first : bit_at bits 0 ≡ 1
   pub none_above : (i : ℕ) → greatest < i → bit_at bits i ≡ 0

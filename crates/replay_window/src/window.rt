@@ -90,7 +90,7 @@ impl Window {
         self.parts
     }
 
-    /// The window of these parts. Bit 0 is set, and no bit stands at a place above the greatest
+    /// The window of these parts. Bit 0 is set, and no bit is at a place above the greatest
     /// number.
     pub fn of_parts(greatest: u64, bits: u32) -> Window
         requires first { bit_at bits 0 ≡ 1 }

@@ -1,4 +1,4 @@
--- How often a number stands in a list.
+-- How often a number is in a list.
 use Rattle.std.proofs.Common.{◌≡◌, ℕ, ◌+◌, ◌<◌, ◌≤◌, cond, List, [], ◌∷◌, ◌++◌, All, refl, ap, arith}
 use Rattle.std.specs.Prelude.{◌==◌}
 use Rattle.std.proofs.lemmas.Bool.{eq-eqb}
@@ -31,7 +31,7 @@ once_within-at_most_one from to x = grind (arith, nat_tests)
 pub within_from_once : (from to x : ℕ) → 0 < once_within from to x → (from ≤ x) × (x < to)
 within_from_once from to x some_time = grind (arith, nat_tests)
 
--- a number that stands in the list stands there at least once
+-- a number that is in the list occurs there at least once
 pub each_from_times : (P : ℕ → Type 0) (xs : List ℕ) → ((x : ℕ) → 0 < times x xs → P x) → All P xs
 each_from_times P [] h = All-nil P
 each_from_times P (y ∷ ys) h =

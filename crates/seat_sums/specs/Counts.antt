@@ -1,7 +1,7 @@
 -- Counts of numbers, and sums.
 use Rattle.std.specs.Prelude.{ℕ, ◌+◌, ◌==◌, ◌&&◌, nat_le, nat_lt, if◌then◌else◌, List, [], ◌∷◌}
 
--- how often the number stands in the list
+-- how often the number occurs in the list
 abbrev pub times : ℕ → List ℕ → ℕ
 times number [] = 0
 times number (n ∷ ns) = (if n == number then 1 else 0) + times number ns

@@ -60,7 +60,7 @@ gathers_next table v w before left all y g is cut =
     let P : List SeatView → Type 0 = λ l. Gathers v l all in
     next table v w left all (subst P (cut ∙ ap (λ (z : SeatView). left ++ z ∷ []) (sym is)) g)
 
--- what stands at most once each stands at one place alone
+-- what occurs at most once each is at one place alone
 distinct_from_times : (xs : List ℕ) → ((x : ℕ) → times x xs ≤ 1) → AllPairs (λ m n. m ≢ n) xs
 distinct_from_times [] h = λ i j d before inside. absurd (omega arith)
 distinct_from_times (y ∷ ys) h =

@@ -1,4 +1,4 @@
--- The numbers of a context, and how often a number stands in a list.
+-- The numbers of a context, and how often a number occurs in a list.
 use Rattle.std.proofs.Common.{◌≡◌, ◌≢◌, ℕ, get_or, set, below_more, get_or-set_other, get_or-set_same, zero, suc, ◌+◌, ◌<◌, ◌≤◌, Bool, true, false, cond, List, [], ◌∷◌, ◌++◌, map, filter, length, refl, sym, ap, ◌∙◌, arith}
 use Rattle.std.specs.Prelude.{◌==◌}
 use Rattle.std.proofs.lemmas.List.{map-append, append-nil}

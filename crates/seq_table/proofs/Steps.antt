@@ -30,7 +30,7 @@ module _ {S : Type 0} (bases : List ℕ) (s : State S View) (kept : IsKept bases
   pub word_from_base : (context : ℕ) → context < length bases → slice_index bases context ≤ slice_index s.words context
   word_from_base context inside = omega (arith, kept.counted context inside)
 
-  -- the numbers of a view stand below the word
+  -- the numbers of a view are below the word
   pub numbers_below : (id : ℕ) (v : View) → get_elem? s.views id ≡ some v → (context : ℕ) → context < length bases → All (λ n. n < slice_index s.words context) (numbers_of context v.drawn)
   numbers_below id v at context inside =
       each_from_times (λ n. n < slice_index s.words context) (numbers_of context v.drawn)

@@ -11,7 +11,7 @@ pub record Gathers (v : View) (left all : List SeatView) : Type 0 where
   pub counted : (context : ℕ) → length (numbers_over context left) + count_in context v ≡ length (numbers_over context all)
   pub parts : parts_over left + parts_of v ≡ parts_over all
 
--- what is known of these seats' draws once the words stand so
+-- what is known of these seats' draws once the words have these values
 pub record EndsWith (bases words : List ℕ) (seats : List SeatView) : Type 0 where
   pub distinct : (context : ℕ) → context < length bases → AllPairs (λ m n. m ≢ n) (numbers_over context seats)
   pub within : (context : ℕ) → context < length bases → All (λ n. (slice_index bases context ≤ n) × (n < slice_index words context)) (numbers_over context seats)

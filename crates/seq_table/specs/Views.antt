@@ -30,7 +30,7 @@ both_views v w = record { bases = v.bases; drawn = v.drawn ++ w.drawn; splits = 
 abbrev pub spent_view : View
 spent_view = record { bases = []; drawn = []; splits = 0; seats = 0 }
 
--- What a draw tells: the number is the caller's, is no less than the context's base, and is above all that it drew of this context
+-- What a draw returns. The number is the caller's, no less than the context's base, and above all that it drew of this context.
 abbrev pub Draws : {S : Type 0} → Step S → Me S View → ℕ → Me S View → Type 0
 Draws at before number after =
     (after ≡ (with_number before.0 at.word number, before.1))

@@ -7,6 +7,6 @@ pub enum Draw {
     Number(u64),
     /// The context has no number left: this one is 2^40 or more (RFC 8613, section 7.2.1).
     Spent(u64),
-    /// The seat has made so many draws, which is all that a seat makes. The context's numbers are as before.
+    /// The seat has made this many draws, which is all that a seat makes. The context's numbers are as before.
     SeatFull(u32),
 }

@@ -51,7 +51,7 @@ impl Model for SeqTable {
 }
 
 impl SeqTable {
-    /// A table with a word for each context, which starts at the context's base, and so many seats. The first seat may be
+    /// A table with a word for each context, which starts at the context's base, and `seats` seats. The first seat may be
     /// split until there are 65,535 in all.
     pub fn new(alloc: Global, bases: &[u64], seats: u32) -> Result<(SeqTable, Vec<Seat>), NoMemory>
         requires bases { All (λ base. base ≤ 2 ^ 40) bases.now }
@@ -151,7 +151,7 @@ impl SeqTable {
         Ok(())
     }
 
-    /// Ends the table, and gives the words as they stand. It takes no memory. `whole` is for a caller that hands in all
+    /// Ends the table, and gives the words as they are. It takes no memory. `whole` is for a caller that hands in all
     /// seats that were made.
     pub fn close(self, seats: Vec<Seat>) -> Vec<u64>
         requires { All (λ seat. seat.table ≡ self) seats.items }

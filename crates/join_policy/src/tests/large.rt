@@ -10,7 +10,7 @@ const HEAD: &str = "network = \"cafe\"\npool_first = 1\npool_count = 65533\nhour
 /// 4 MiB.
 const LIMIT: usize = 4194304;
 
-/// An inventory of so many rows, whose identifiers fall. Where `extra` is set, a last row has that one.
+/// An inventory of `rows` rows, whose identifiers fall. Where `extra` is set, a last row has that one.
 fn generated(alloc: Global, rows: u32) -> Result<String, AllocError> {
     let mut text = String::from_str(alloc, HEAD)?;
     for number in (0..rows).rev() {
@@ -67,7 +67,7 @@ fn a_longer_inventory_is_too_long(rt: HostRuntime) -> Result<(), Fail> {
     assert!(rt; fault_of(rt.alloc(), bytes.as_slice()).is_none());
     let bytes = padded(rt.alloc(), LIMIT + 1)?;
     assert!(rt; fault_of(rt.alloc(), bytes.as_slice()) == Some(InventoryFault::TooLong));
-    // It is told before the text is looked at.
+    // It is reported before the text is looked at.
     let bytes = vec![in rt.alloc(); 0xff; LIMIT + 1]?;
     assert!(rt; fault_of(rt.alloc(), bytes.as_slice()) == Some(InventoryFault::TooLong));
     Ok(())
