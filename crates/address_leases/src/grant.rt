@@ -3,15 +3,9 @@ ghost use Rattle.std.specs.Prelude.{◌≡◌, ◌↔◌, ◌+◌, ◌<◌, ◌�
 ghost use Rattle.address_leases.specs.Indices.{IsHolding};
 
 use edge_traits::PledgeId;
-use thiserror::Error;
 
 /// Seconds for which an address stays held after the end of its lease.
 pub const GRACE: u64 = 3600;
-
-/// Memory ran out.
-#[derive(Clone, Copy, Debug, PartialEq, Eq, Error)]
-#[error("out of memory")]
-pub struct NoMemory;
 
 /// A grant of an address to a pledge until a second. One until 2^64 - 1 has no end.
 #[derive(Clone, Copy, Debug, PartialEq, Eq, PartialOrd, Ord)]

@@ -7,12 +7,12 @@ ghost use Rattle.address_leases.specs.Lent.{Lent, IsAnswer, IsLiveAddress};
 ghost use Rattle.address_leases.specs.Steps.{IsEmpty, Gives, Passes, Releases};
 ghost use Rattle.address_leases.specs.Indices.{last_grant, AreIndices, IsLastOf, IsTopOf, top_at, IsLeastUpTo, IsFreeAnswer};
 
-use crate::grant::{Grant, NoMemory, is_over};
+use crate::grant::{Grant, is_over};
 use crate::pledges::{Last, Pledges};
 use crate::queue::Queue;
 use crate::top::raise;
 use crate::tops::Tops;
-use edge_traits::PledgeId;
+use edge_traits::{NoMemory, PledgeId};
 use std::alloc::{AllocError, Global};
 use std::marker::Model;
 

@@ -14,5 +14,5 @@ mod tests;
 mod top;
 mod tops;
 
-pub use grant::{GRACE, Grant, NoMemory};
+pub use grant::{GRACE, Grant};
 pub use leases::Leases;

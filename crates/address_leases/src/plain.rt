@@ -9,8 +9,8 @@ ghost use Rattle.address_leases.specs.Steps.{IsEmpty, Gives, Passes, Releases};
 ghost use Rattle.address_leases.specs.Indices.{IsFreeAnswer};
 ghost use Rattle.address_leases.specs.Plain.{ArePlain, AreMarks, IsAgainst};
 
-use crate::grant::{Grant, NoMemory, is_held, is_over};
-use edge_traits::PledgeId;
+use crate::grant::{Grant, is_held, is_over};
+use edge_traits::{NoMemory, PledgeId};
 use std::alloc::{AllocError, Global};
 use std::marker::Model;
 

@@ -1,10 +1,9 @@
 //! The indices beside the plain lists, and grants at the edges of their time.
 ghost use Rattle.std.specs.Prelude.{◌≡◌, ◌+◌, ◌^◌, ◌<◌, ◌≤◌, length};
 
-use crate::grant::NoMemory;
 use crate::leases::Leases;
 use crate::plain::Plain;
-use edge_traits::PledgeId;
+use edge_traits::{NoMemory, PledgeId};
 use std::alloc::Global;
 use std::test::Fail;
 

@@ -9,7 +9,7 @@ use Rattle.edge_traits.proofs.Torn.{torn_whole}
 use Rattle.edge_memory.specs.Story.{Event, Idle, Write, Sync, of_area, seen_after, replayed, settled_after, settled, is_inside, all_inside, LeavesAfter, Leaves}
 use Rattle.edge_memory.proofs.Stories.{replayed-push, inside_at, leaves_push}
 
--- The image may be left after so many calls. As far as an area is synced later on, it is what a read gives.
+-- The image may be left after this many calls. As far as an area is synced later on, it is what a read gives.
 pub record IsReplayed (first : Areas) (events : List Event) (left right moment : ℕ) (held : Areas) : Type 0 where
   pub leaves : Leaves first first (take moment events) held
   pub durable : (area : Area) → moment ≤ of_area area left right → bytes_of held area ≡ bytes_of (replayed first (take moment events)) area

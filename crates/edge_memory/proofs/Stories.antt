@@ -137,7 +137,7 @@ module _ (story new : Story) (event : Event) (is : new ≡ with_event story even
   pub elapses_now : Goes story new
   elapses_now = subst (λ (s : Story). Goes story s) (sym is) (elapses_with story event)
 
--- a write of at most so many bytes
+-- a write of at most n bytes
 pub torn_follows : (story new : Story) (area : Area) (at n : ℕ) (bytes : List ℕ) → length bytes ≤ n → new ≡ with_event story (Write area at bytes) → Follows (Changes area (Torn at n)) (MayLeave story) (MayLeave new)
 torn_follows story new area at n bytes le is image may =
     let from = write_follows story area at bytes image (subst (λ (s : Story). MayLeave s image) is may) in

@@ -5,7 +5,7 @@ use Rattle.edge_memory.specs.declared.failing.FailingCall.{FailingCall}
 use Rattle.edge_memory.specs.declared.failing.Part.{Part}
 use Rattle.edge_memory.specs.declared.failing.Part.TheVariants.{Nothing, Half, All}
 
--- how many of so many bytes a part is
+-- how many of these bytes a part is
 abbrev pub part_size : Part → ℕ → ℕ
 part_size Nothing count = 0
 part_size Half count = count / 2

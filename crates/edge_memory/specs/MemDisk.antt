@@ -1,4 +1,4 @@
--- What a disk in memory tells.
+-- What a disk in memory reports.
 use Rattle.std.specs.Prelude.{ℕ, ◌<◌, ◌≤◌, List, length, take, Option, None, Some}
 use Rattle.edge_traits.specs.Disk.{Areas}
 use Rattle.edge_memory.specs.declared.calls.Calls.{Calls}
@@ -43,7 +43,7 @@ room_of disk = disk.log.room
 abbrev pub written_of : MemDisk → ℕ
 written_of disk = length disk.log.bytes.items
 
--- there is room to record a write of so many bytes
+-- there is room to record a write of this many bytes
 abbrev pub CanWrite : MemDisk → ℕ → Type 0
 CanWrite disk count = (0 < disk.log.free) × (count ≤ disk.log.room)
 

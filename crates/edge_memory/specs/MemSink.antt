@@ -1,4 +1,4 @@
--- What a sink over memory tells.
+-- What a sink over memory reports.
 use Rattle.std.specs.Prelude.{ℕ, List}
 use Rattle.edge_memory.specs.declared.calls.Calls.{Calls}
 use Rattle.edge_memory.specs.declared.sink.MemSink.{MemSink}

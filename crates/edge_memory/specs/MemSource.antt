@@ -1,4 +1,4 @@
--- What a source over memory tells.
+-- What a source over memory reports.
 use Rattle.std.specs.Prelude.{ℕ, List, drop}
 use Rattle.edge_memory.specs.declared.calls.Calls.{Calls}
 use Rattle.edge_memory.specs.declared.source.MemSource.{MemSource}

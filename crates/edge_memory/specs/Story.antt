@@ -18,7 +18,7 @@ pub record Story : Type 0 where
 abbrev pub with_event : Story → Event → Story
 with_event story event = record { first = story.first; events = story.events ++ event ∷ [] }
 
--- the story after a call, where there was room for so many calls more
+-- the story after a call, where there was room for this many more calls
 abbrev pub recorded : ℕ → Event → Story → Story
 recorded room event story = if nat_lt 0 room then with_event story event else story
 
@@ -79,11 +79,11 @@ abbrev pub Leaves : Areas → Areas → List Event → Areas → Type 0
 Leaves seen held [] image = image ≡ held
 Leaves seen held (event ∷ events) image = (next : Areas) × LeavesAfter seen event held next × Leaves (seen_after seen event) next events image
 
--- each area as its last sync among so many calls left it, or as it was made
+-- each area as its last sync among the first calls left it, or as it was made
 abbrev pub settled_at : Story → ℕ → Areas
 settled_at story moment = settled story.first story.first (take moment story.events)
 
--- after so many calls
+-- after this many calls
 abbrev pub LeavesAt : Story → ℕ → Areas → Type 0
 LeavesAt story moment image = Leaves story.first story.first (take moment story.events) image
 

@@ -54,7 +54,7 @@ impl CallLog {
     ghost use Rattle.edge_memory.specs.Story.{Idle, Write, Sync, Leaves, all_inside, replayed, settled};
     ghost use Rattle.edge_memory.specs.CallLog.{events_of};
 
-    /// A log with room for so many calls and so many bytes.
+    /// A log with room for `calls` calls and `room` bytes.
     pub fn new(alloc: Global, calls: usize, room: usize) -> Result<Self, AllocError>
         ensures events { IfOk result (λ made. events_of made ≡ []) }
         ensures calls { IfOk result (λ made. made.free ≡ calls) }
@@ -143,7 +143,7 @@ impl CallLog {
         self.free -= 1;
     }
 
-    /// Makes of the first contents what a crash after so many calls may leave. What wasn't synced didn't arrive with pick 0,
+    /// Makes of the first contents what a crash after `count` calls may leave. What wasn't synced didn't arrive with pick 0,
     /// arrived whole with 1, and else came through as the pick draws.
     pub fn leave(&self, contents: &mut Contents, count: usize, pick: u64) -> Result<(), AllocError>
         requires count { count ≤ length (events_of self.now) }

@@ -1,9 +1,8 @@
 //! How the calls of one object are numbered, and which of them fail.
 ghost use Rattle.std.specs.Prelude.{◌<◌, ◌^◌};
 
-use crate::NoMemory;
 use crate::failing::{FailingCall, Part};
-use edge_traits::Failed;
+use edge_traits::{Failed, NoMemory};
 use std::alloc::Global;
 
 /// The calls that fail, the number of the next call, from 0, and how many failed. Both counts stop at 2^64 - 1.

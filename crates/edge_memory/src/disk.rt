@@ -1,15 +1,14 @@
-//! A disk in memory, which records its calls and tells what a crash at each moment might have left.
+//! A disk in memory, which records its calls and reports what a crash at each moment might have left.
 ghost use Rattle.std.specs.Prelude.{◌≡◌, true};
 ghost use Rattle.edge_memory.specs.Contents.{HasRoom, areas_of};
 ghost use Rattle.edge_memory.specs.Story.{all_inside, replayed};
 ghost use Rattle.edge_memory.specs.CallLog.{events_of};
 
-use crate::NoMemory;
 use crate::call_log::CallLog;
 use crate::calls::Calls;
 use crate::contents::Contents;
 use crate::failing::{FailingCall, Part};
-use edge_traits::{Area, Disk, Failed};
+use edge_traits::{Area, Disk, Failed, NoMemory};
 use std::alloc::Global;
 
 /// Two areas and the record of the calls on them. A call fails where it is listed, once the record is full, and where a
@@ -35,7 +34,7 @@ impl MemDisk {
     ghost use Rattle.edge_memory.specs.MemDisk.{seen_of, story_of, may_leave_of, moment_of, left_since_of, room_of, written_of, calls_left_of, CanWrite, calls_of};
 
     /// A disk with these areas, all of them synced, whose calls of these numbers, from 0, fail after half of their work. It
-    /// records so many calls and so many written bytes.
+    /// records `calls` calls and `room` written bytes.
     pub fn new(
         alloc: Global,
         left: &[u8],
@@ -131,6 +130,13 @@ impl MemDisk {
         )
     }
 
+    /// What the area reads as, without a call of the disk.
+    pub fn content(&self, area: Area) -> &[u8]
+        ensures { result.now ≡ bytes_of (seen_of self.now) area }
+    {
+        self.seen.area(area)
+    }
+
     // Numbers a call that changes nothing, and records it where there is room.
     fn rest(&mut self) -> Result<(), Failed>
         ensures seen { seen_of self.new ≡ seen_of self.old }
@@ -172,7 +178,7 @@ impl MemDisk {
         self.log.sync(area);
     }
 
-    // How many of so many bytes the next call does where it fails.
+    // How many of `count` bytes the next call does where it fails.
     fn failing_size(&self, count: usize) -> usize
         ensures size { result ≡ failing_size (next_listed (calls_of self.now)) count }
         ensures most { result ≤ count }

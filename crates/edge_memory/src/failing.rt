@@ -12,7 +12,7 @@ pub enum Part {
 }
 
 impl Part {
-    /// How many of so many bytes it is.
+    /// How many of `count` bytes it is.
     pub fn size(self, count: usize) -> usize
         ensures size { result ≡ part_size self count }
         ensures most { result ≤ count }

@@ -39,7 +39,7 @@ impl Pick {
         mixed ^ (mixed >> 31)
     }
 
-    /// How a write of so many bytes came through. Each kind is as likely as another: nothing arrived, a prefix did, all
+    /// How a write of `len` bytes came through. Each kind is as likely as another: nothing arrived, a prefix did, all
     /// did, the length did with zeros or with any bytes, or a prefix of a mix.
     pub fn tear(&mut self, len: usize) -> Tear
         ensures { result.reach ≤ len }

@@ -1,10 +1,9 @@
 //! A sink over memory that was reserved when it was made.
 ghost use Rattle.std.specs.Prelude.{◌≤◌, ◌+◌, vec_len, vec_capacity};
 
-use crate::NoMemory;
 use crate::calls::Calls;
 use crate::failing::Part;
-use edge_traits::{Failed, Sink};
+use edge_traits::{Failed, NoMemory, Sink};
 use std::alloc::Global;
 
 /// Takes each piece whole, as long as its room lasts. The calls whose numbers are listed fail.
@@ -22,7 +21,7 @@ impl MemSink {
     ghost use Rattle.edge_memory.specs.declared.failing.Part.TheVariants.{Nothing};
     ghost use Rattle.edge_memory.specs.MemSink.{written_of, room_of, calls_of};
 
-    /// An empty sink with room for so many bytes, whose calls of these numbers, from 0, fail.
+    /// An empty sink with room for `room` bytes, whose calls of these numbers, from 0, fail.
     pub fn new(alloc: Global, failing: &[u64], room: usize) -> Result<Self, NoMemory>
         ensures written { IfOk result (λ sink. written_of sink ≡ []) }
         ensures room { IfOk result (λ sink. room_of sink ≡ room) }

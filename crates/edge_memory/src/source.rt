@@ -1,10 +1,9 @@
 //! A source over bytes in memory.
 ghost use Rattle.std.specs.Prelude.{◌≤◌, vec_len};
 
-use crate::NoMemory;
 use crate::calls::Calls;
 use crate::failing::Part;
-use edge_traits::{Failed, Source};
+use edge_traits::{Failed, NoMemory, Source};
 use std::alloc::Global;
 
 /// Gives its bytes in order, as many as fit the buffer. The calls whose numbers are listed fail.

@@ -1,5 +1,5 @@
 // The outside as the system gives it: standard input as a source, standard output as a sink and two files as a disk.
-// It promises the layers above that each keeps its trait, and tells nothing of content: what these few lines read
+// It promises the layers above that each keeps its trait, and reports nothing of content: what these few lines read
 // and write is trusted. The definitions are in specs/: Faults, StdSource, StdSink and FileDisk.
 #![tactic(auto)]
 

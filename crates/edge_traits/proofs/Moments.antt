@@ -29,3 +29,12 @@ module _ {D : Type 0} (moment : D → ℕ) (left_since : D → ℕ → Areas →
     each = λ image left. ⊎_elim (first.each image) (here image) (second.before (moment old) image first.later left);
     before = λ t image le left. ⊎_elim (first.before t image le) (λ now. inr (here image now)) (second.before t image (omega (arith, le, first.later)) left);
   }
+
+  -- what follows from each image
+  pub LeavesOnly-map : (old new : D) (P Q : Areas → Type 0) → LeavesOnly moment left_since old new P → ((image : Areas) → P image → Q image)
+      → LeavesOnly moment left_since old new Q
+  LeavesOnly-map old new P Q leaves f = record {
+    later = leaves.later;
+    each = λ image left. f image (leaves.each image left);
+    before = λ t image le left. ⊎_elim (λ was. inl was) (λ now. inr (f image now)) (leaves.before t image le left);
+  }

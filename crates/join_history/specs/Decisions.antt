@@ -3,6 +3,7 @@ use Rattle.std.specs.Prelude.{◌≡◌, ℕ, ◌+◌, ◌<◌, List, Some, Any}
 use Rattle.edge_traits.specs.declared.names.PledgeId.{PledgeId}
 use Rattle.journal_text.specs.declared.entry.Entry.{Entry}
 use Rattle.journal_text.specs.declared.entry.Entry.TheVariants.{Grant, Refuse}
+use Rattle.join_history.specs.Limits.{window_size}
 use Rattle.join_history.specs.Last.{IsLast}
 use Rattle.join_history.specs.Contexts.{pledge_of}
 
@@ -23,7 +24,7 @@ HasNumber h c n = Any (IsDecision c n) h
 -- The number wasn't decided, and the greatest one that was is less than 32 above it.
 pub record IsFresh (h : List Entry) (c n : ℕ) : Type 0 where
   pub unused : HasNumber h c n → ⊥
-  pub in_window : (m : ℕ) → HasNumber h c m → m < n + 32
+  pub in_window : (m : ℕ) → HasNumber h c m → m < n + window_size
 
 -- the last entry that decides a request of the context
 abbrev pub IsLastDecision : List Entry → ℕ → Entry → Type 0

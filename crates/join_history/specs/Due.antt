@@ -11,6 +11,7 @@ use Rattle.join_history.specs.declared.due.Due.TheVariants.{Add, Again, Quiet}
 use Rattle.join_history.specs.declared.due.Quiet.TheVariants.{Taken, Old, Late}
 use Rattle.join_history.specs.declared.due.Want.{Want}
 use Rattle.join_history.specs.declared.due.Want.TheVariants as want
+use Rattle.join_history.specs.Limits.{window_size, repeat_span}
 use Rattle.join_history.specs.Times.{time_of, moment}
 use Rattle.join_history.specs.Contexts.{pledge_of}
 use Rattle.join_history.specs.Decisions.{IsDecision, IsLastDecision, HasNumber, IsFresh}
@@ -49,11 +50,11 @@ IsDueEntry h t c n wish _ = ⊥
 -- What the request of this context and number is due when the clock says `now`. A repeat of the last decision comes
 -- first, then a number 32 or more below the greatest, then one that was decided; what is left is fresh.
 abbrev pub IsDue : List Entry → ℕ → ℕ → ℕ → Want → Due → Type 0
-IsDue h now c n wish Again = (time : ℕ) × IsRepeat h c n time × (moment h now ≤ time + 600)
-IsDue h now c n wish (Quiet Late) = (time : ℕ) × IsRepeat h c n time × (time + 600 < moment h now)
-IsDue h now c n wish (Quiet Old) = IsNoRepeat h c n × (m : ℕ) × HasNumber h c m × (n + 32 ≤ m)
+IsDue h now c n wish Again = (time : ℕ) × IsRepeat h c n time × (moment h now ≤ time + repeat_span)
+IsDue h now c n wish (Quiet Late) = (time : ℕ) × IsRepeat h c n time × (time + repeat_span < moment h now)
+IsDue h now c n wish (Quiet Old) = IsNoRepeat h c n × (m : ℕ) × HasNumber h c m × (n + window_size ≤ m)
 IsDue h now c n wish (Quiet Taken) =
-    IsNoRepeat h c n × HasNumber h c n × ((m : ℕ) → HasNumber h c m → m < n + 32)
+    IsNoRepeat h c n × HasNumber h c n × ((m : ℕ) → HasNumber h c m → m < n + window_size)
 IsDue h now c n wish (Add e) = IsFresh h c n × IsDueEntry h (moment h now) c n wish e
 
 -- an entry that is due may follow

@@ -10,6 +10,7 @@ use Rattle.journal_text.specs.declared.entry.Entry.TheVariants.{Enroll, Grant, R
 use Rattle.join_history.specs.declared.due.Due.{Due}
 use Rattle.join_history.specs.declared.due.Due.TheVariants.{Add}
 use Rattle.join_history.specs.declared.due.Want.{Want}
+use Rattle.join_history.specs.Limits.{number_end, block_size, repeat_span}
 use Rattle.join_history.specs.Times.{last_time, moment}
 use Rattle.join_history.specs.Contexts.{pledge_of}
 use Rattle.join_history.specs.Leases.{current_settings, Holds, IsLive}
@@ -74,7 +75,7 @@ DueSomething = (h : List Entry) (now c n : ℕ) (wish : Want) (p : PledgeId) (s 
 -- an entry that is due may follow
 abbrev pub DueMayFollow : Type 0
 DueMayFollow = (h : List Entry) (now c n : ℕ) (wish : Want) (p : PledgeId) (s : Settings) (e : Entry)
-    → IsLegal h → pledge_of h c ≡ Some p → current_settings h ≡ Some s → n < 2 ^ 40 → IsWish wish
+    → IsLegal h → pledge_of h c ≡ Some p → current_settings h ≡ Some s → n < number_end → IsWish wish
     → IsDue h now c n wish (Add e) → MayFollow h e
 
 -- the empty history is legal, and a legal one followed by what may follow it
@@ -109,11 +110,11 @@ ReleasedHoldsNothing = (h : List Entry) (time t a : ℕ) (p : PledgeId) → Hold
 abbrev pub ReleasedLate : Type 0
 ReleasedLate = (before between after : List Entry) (made time c n a until : ℕ) (p : PledgeId)
     → IsLegal (before ++ Grant made c n a until ∷ between ++ Release time p ∷ after) → pledge_of before c ≡ Some p
-    → made + 600 < time
+    → made + repeat_span < time
 
 -- a block end is a multiple of 64 and at most 2^40
 abbrev pub BlockEnds : Type 0
-BlockEnds = (h : List Entry) (c : ℕ) → IsLegal h → ((k : ℕ) × (block_end h c ≡ 64 * k)) × (block_end h c ≤ 2 ^ 40)
+BlockEnds = (h : List Entry) (c : ℕ) → IsLegal h → ((k : ℕ) × (block_end h c ≡ block_size * k)) × (block_end h c ≤ number_end)
 
 -- a block end never falls
 abbrev pub BlockEndsRise : Type 0

@@ -4,6 +4,7 @@ use Rattle.edge_traits.specs.declared.names.PledgeId.{PledgeId}
 use Rattle.journal_text.specs.declared.settings.Settings.{Settings}
 use Rattle.journal_text.specs.declared.entry.Entry.{Entry}
 use Rattle.journal_text.specs.declared.entry.Entry.TheVariants.{Settings as SettingsEntry, Grant, Release}
+use Rattle.join_history.specs.Limits.{grace}
 use Rattle.join_history.specs.Last.{IsLast}
 use Rattle.join_history.specs.Contexts.{pledge_of}
 
@@ -41,7 +42,7 @@ pub record IsInEffect (h : List Entry) (p : PledgeId) (e : Entry) : Type 0 where
 -- t, or later.
 abbrev pub Holds : List Entry → ℕ → ℕ → PledgeId → Type 0
 Holds h t a p = (time context number until : ℕ) × IsInEffect h p (Grant time context number a until)
-    × (pledge_of h context ≡ Some p) × (t < until + 3600)
+    × (pledge_of h context ≡ Some p) × (t < until + grace)
 
 -- the entry gives the pledge a lease, or takes its leases back
 abbrev pub IsLeaseOf : List Entry → PledgeId → Entry → Type 0

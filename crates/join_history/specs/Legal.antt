@@ -7,6 +7,7 @@ use Rattle.journal_text.specs.declared.refusal.Refusal.TheVariants as refusal
 use Rattle.journal_text.specs.Codes.{IsReason}
 use Rattle.journal_text.specs.declared.entry.Entry.{Entry}
 use Rattle.journal_text.specs.declared.entry.Entry.TheVariants.{Settings as SettingsEntry, Enroll, Grant, Refuse, Block, Roll, Given, Stale, Switch, Release}
+use Rattle.join_history.specs.Limits.{context_limit, number_end, time_end, block_size, repeat_span, pool_end, hours_limit}
 use Rattle.join_history.specs.Times.{time_of, last_time}
 use Rattle.join_history.specs.Contexts.{pledge_of, context_count, HasCheck}
 use Rattle.join_history.specs.Decisions.{IsFresh, IsDecisionFor}
@@ -20,8 +21,8 @@ use Rattle.join_history.specs.Leases.{current_settings, lease_end, Holds, IsLive
 pub record IsInRange (settings : Settings) : Type 0 where
   pub first : 1 ≤ settings.first
   pub count : 1 ≤ settings.count
-  pub last : settings.first + settings.count ≤ 65534
-  pub hours : settings.hours ≤ 65535
+  pub last : settings.first + settings.count ≤ pool_end
+  pub hours : settings.hours ≤ hours_limit
   pub rate_fits : IfSome settings.rate (λ rate. rate < 2 ^ 32)
   pub jrc_of_16 : IfSome settings.jrc (λ address. length address ≡ 16)
   pub few_ids : length settings.refused.items ≤ 16
@@ -30,14 +31,14 @@ pub record IsInRange (settings : Settings) : Type 0 where
 -- the time isn't before the last one, and fits 40 bits
 pub record IsTimely (g : List Entry) (time : ℕ) : Type 0 where
   pub not_before : last_time g ≤ time
-  pub fits : time < 2 ^ 40
+  pub fits : time < time_end
 
 -- a request of this context and number may be decided at this time, for this pledge under these settings
 pub record MayDecide (g : List Entry) (time context number : ℕ) (pledge : PledgeId) (settings : Settings) : Type 0 where
   pub timely : IsTimely g time
   pub enrolled : pledge_of g context ≡ Some pledge
   pub current : current_settings g ≡ Some settings
-  pub number_fits : number < 2 ^ 40
+  pub number_fits : number < number_end
   pub fresh : IsFresh g context number
 
 -- only a pledge that gets no address is refused for want of one
@@ -51,19 +52,19 @@ Lacks g time pledge epoch = IsTimely g time × IsSpreading (phase g) epoch × ((
 
 -- the decision was made more than 600 seconds before
 abbrev pub HasAged : Entry → ℕ → Type 0
-HasAged e time = (made : ℕ) × (time_of e ≡ Some made) × (made + 600 < time)
+HasAged e time = (made : ℕ) × (time_of e ≡ Some made) × (made + repeat_span < time)
 
 -- the entry may follow the history g
 abbrev pub MayFollow : List Entry → Entry → Type 0
 MayFollow g (SettingsEntry time settings) = IsTimely g time × IsInRange settings
-MayFollow g (Enroll context id check) = (context ≡ context_count g) × (context < 32768) × (HasCheck g check → ⊥)
+MayFollow g (Enroll context id check) = (context ≡ context_count g) × (context < context_limit) × (HasCheck g check → ⊥)
 MayFollow g (Grant time context number address until) = (pledge : PledgeId) × (settings : Settings)
     × MayDecide g time context number pledge settings
     × IsDueAddress g time pledge address × (until ≡ lease_end time settings.hours)
 MayFollow g (Refuse time context number why) = (pledge : PledgeId) × (settings : Settings)
     × MayDecide g time context number pledge settings × IsTrueReason g time pledge why
 MayFollow g (Block context to) = (pledge : PledgeId) × (pledge_of g context ≡ Some pledge)
-    × (to ≡ block_end g context + 64) × (to ≤ 2 ^ 40)
+    × (to ≡ block_end g context + block_size) × (to ≤ number_end)
 MayFollow g (Roll time set) = IsTimely g time × IsNextSet (phase g) set
 MayFollow g (Given time context number epoch) = (pledge : PledgeId) × (pledge_of g context ≡ Some pledge)
     × Lacks g time pledge epoch × (number < block_end g context)

@@ -1,3 +1,4 @@
+pub mod Limits
 pub mod Last
 pub mod Times
 pub mod Contexts

@@ -11,6 +11,7 @@ use Rattle.journal_text.specs.declared.summary.SumNode.{SumNode}
 use Rattle.journal_text.specs.declared.summary.RegSummary.{RegSummary}
 use Rattle.journal_text.specs.declared.entry.Entry.{Entry}
 use Rattle.journal_text.specs.declared.entry.Entry.TheVariants.{Settings as SettingsEntry, Enroll, Grant}
+use Rattle.join_history.specs.Limits.{window_size, grace}
 use Rattle.join_history.specs.Last.{IsLast}
 use Rattle.join_history.specs.Times.{time_of, last_time}
 use Rattle.join_history.specs.Contexts.{pledge_of, context_count}
@@ -59,8 +60,8 @@ timed_settings h = fold timed_settings_after None h
 pub record IsSumRequest (h : List Entry) (c : ℕ) (r : SumRequest) : Type 0 where
   pub greatest : HasNumber h c r.greatest
   pub at_most : (n : ℕ) → HasNumber h c n → n ≤ r.greatest
-  pub window : (i : ℕ) → i < 32 → (bit_at r.window i ≡ 1) ↔ ((i ≤ r.greatest) × HasNumber h c (r.greatest - i))
-  pub window_fits : r.window < 2 ^ 32
+  pub window : (i : ℕ) → i < window_size → (bit_at r.window i ≡ 1) ↔ ((i ≤ r.greatest) × HasNumber h c (r.greatest - i))
+  pub window_fits : r.window < 2 ^ window_size
   pub decision : Entry
   pub last : IsLastDecision h c decision
   pub number : IsDecision c r.number decision
@@ -85,7 +86,7 @@ pub record IsSumGrant (h : List Entry) (x : SumGrant) : Type 0 where
   pub number : ℕ
   pub effect : IsInEffect h x.id (Grant time context number x.address x.until)
   pub pledge : pledge_of h context ≡ Some x.id
-  pub held : last_time h < x.until + 3600
+  pub held : last_time h < x.until + grace
 
 -- by address, then by identifier, then by end
 abbrev pub IsGrantBefore : SumGrant → SumGrant → Type 0

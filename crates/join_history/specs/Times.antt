@@ -2,6 +2,7 @@
 use Rattle.std.specs.Prelude.{ℕ, ◌-◌, ◌^◌, max, min, List, Option, Some, None, unwrap_or, fold}
 use Rattle.journal_text.specs.declared.entry.Entry.{Entry}
 use Rattle.journal_text.specs.declared.entry.Entry.TheVariants.{Settings, Enroll, Grant, Refuse, Block, Roll, Given, Stale, Switch, Release}
+use Rattle.join_history.specs.Limits.{time_end}
 
 -- the time of an entry that has one
 abbrev pub time_of : Entry → Option ℕ
@@ -22,4 +23,4 @@ last_time h = fold (λ last e. unwrap_or (time_of e) last) 0 h
 
 -- the moment of a decision that is made when the clock says `now`
 abbrev pub moment : List Entry → ℕ → ℕ
-moment h now = max (last_time h) (min now (2 ^ 40 - 1))
+moment h now = max (last_time h) (min now (time_end - 1))

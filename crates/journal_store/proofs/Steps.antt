@@ -3,7 +3,7 @@ use Rattle.std.proofs.Common.{◌≡◌, ⊎_elim, ℕ, ◌+◌, List, [], ◌�
 use Rattle.edge_traits.specs.Disk.{Areas, bytes_of, Overwrites, Torn, Changes, Follows, LeavesNoMore, OnlyIn, Elapses, LeavesOnly}
 use Rattle.edge_traits.specs.declared.names.Area.{Area}
 use Rattle.edge_traits.proofs.Torn.{torn_not}
-use Rattle.edge_traits.proofs.Moments.{started, goes_on, joined}
+use Rattle.edge_traits.proofs.Moments.{started, goes_on, joined, LeavesOnly-map}
 use Rattle.journal_text.specs.declared.entry.Entry.{Entry}
 use Rattle.journal_store.specs.Area.{IsBatch, IsLog, MayHave, tail_text, end_with}
 use Rattle.journal_store.specs.declared.journal.Journal.{Journal}
@@ -26,14 +26,6 @@ module _ {D : Type 0} (moment : D → ℕ) (left_since : D → ℕ → Areas →
       let written = goes_on moment left_since may_leave old old mid P begun first wrote in
       goes_on moment left_since may_leave old mid new P written second (λ image left. wrote image (no_more image left))
 
-  -- what follows of each image
-  pub LeavesOnly-map : (old new : D) (P Q : Areas → Type 0) → LeavesOnly moment left_since old new P → ((image : Areas) → P image → Q image) → LeavesOnly moment left_since old new Q
-  LeavesOnly-map old new P Q leaves f = record {
-    later = leaves.later;
-    each = λ image left. f image (leaves.each image left);
-    before = λ t image le left. ⊎_elim (λ was. inl was) (λ now. inr (f image now)) (leaves.before t image le left);
-  }
-
   -- ---- the two writes of a batch
 
   other_of : (area : Area) (at n : ℕ) (old mid : D) → Follows (Changes area (Torn at n)) (may_leave old) (may_leave mid) → (image : Areas) → may_leave mid image → HasOther area (may_leave old) image
@@ -51,7 +43,7 @@ module _ {D : Type 0} (moment : D → ℕ) (left_since : D → ℕ → Areas →
 
     pub first_moments : (n : ℕ) → LeavesOnly moment left_since old mid (TornFrom (may_leave old) area (end + 1) n) → LeavesOnly moment left_since old mid (HasEither (may_leave old) area header end log entries)
     first_moments n leaves =
-        LeavesOnly-map old mid (TornFrom (may_leave old) area (end + 1) n) (HasEither (may_leave old) area header end log entries) leaves (first_either n)
+        LeavesOnly-map moment left_since old mid (TornFrom (may_leave old) area (end + 1) n) (HasEither (may_leave old) area header end log entries) leaves (first_either n)
 
     pub staged : (seen : D → Areas) (tail : List ℕ) → tail ≡ tail_text entries → may_leave old (seen old) → Changes area (Overwrites (end + 1) tail) (seen old) (seen mid)
         → OnlyIn area (seen mid) (may_leave mid) → EachIn area (may_leave mid) (IsStaged header end log (tail_text entries))

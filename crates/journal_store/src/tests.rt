@@ -43,11 +43,7 @@ fn cut_area(alloc: Global, end: usize, gate: u8) -> Result<Vec<u8>, Fail>
     Ok(bytes)
 }
 
-fn disk_of(alloc: Global, left: &[u8], failing: &[u64], calls: usize) -> Result<MemDisk, Fail> {
-    Ok(MemDisk::new(alloc, left, b"\x00", failing, calls, 256)?)
-}
-
-/// The same, where each call that fails does this part of its work.
+/// A disk with this left area, where each call that fails does this part of its work.
 fn disk_with(
     alloc: Global,
     left: &[u8],
@@ -67,19 +63,10 @@ fn disk_with(
 
 const PARTS: [Part; 3] = [Part::Nothing, Part::Half, Part::All];
 
-fn content(alloc: Global, disk: &mut MemDisk, area: Area) -> Result<Vec<u8>, Fail> {
-    let len = disk.len(area)?;
-    let mut bytes = vec![in alloc; 0; len as usize]?;
-    disk.read_at(area, 0, &mut bytes)?;
-    Ok(bytes)
-}
-
 /// The left area is so, and the right one is a closed gate.
-fn has(rt: &impl Abort, alloc: Global, disk: &mut MemDisk, left: &[u8]) -> Result<(), Fail> {
-    let found = content(alloc, disk, Area::Left)?;
-    let other = content(alloc, disk, Area::Right)?;
-    assert_eq!(rt; found.as_slice(), left);
-    assert_eq!(rt; other.as_slice(), [0].as_slice());
+fn has(rt: &impl Abort, disk: &MemDisk, left: &[u8]) -> Result<(), Fail> {
+    assert_eq!(rt; disk.content(Area::Left), left);
+    assert_eq!(rt; disk.content(Area::Right), [0].as_slice());
     Ok(())
 }
 
@@ -111,7 +98,7 @@ fn count_of(rt: &impl Abort, alloc: Global, disk: MemDisk) -> Result<usize, Fail
 
 /// Where the area has no reading.
 fn spot_of(alloc: Global, area: &[u8]) -> Result<Option<Spot>, Fail> {
-    match Journal::start(alloc, disk_of(alloc, area, &[], 3)?) {
+    match Journal::start(alloc, MemDisk::new(alloc, area, b"\x00", &[], 3, 256)?) {
         Ok(_opened) => Ok(None),
         Err((_disk, fault)) => match fault {
             StoreFault::NotAJournal(spot) => Ok(Some(spot)),
@@ -167,15 +154,15 @@ fn two_empty_areas_are_formatted_once(rt: HostRuntime) -> Result<(), Fail> {
     let mut disk = MemDisk::new(alloc, b"", b"", &[], 32, 44)?;
     assert_eq!(rt; Journal::format(&mut disk), Ok(()));
     let empty = cut_area(alloc, 42, 0)?;
-    has(&rt, alloc, &mut disk, &empty)?;
+    has(&rt, &disk, &empty)?;
     let refused = Journal::format(&mut disk);
     assert_eq!(rt; refused, Err(StoreFault::AlreadyThere(43)));
-    has(&rt, alloc, &mut disk, &empty)?;
+    has(&rt, &disk, &empty)?;
     assert_eq!(rt; count_of(&rt, alloc, disk)?, 0);
     let mut disk = MemDisk::new(alloc, b"", b"\x07", &[], 8, 44)?;
     let refused = Journal::format(&mut disk);
     assert_eq!(rt; refused, Err(StoreFault::AlreadyThere(1)));
-    assert_eq!(rt; content(alloc, &mut disk, Area::Left)?.len(), 0);
+    assert_eq!(rt; disk.content(Area::Left).len(), 0);
     Ok(())
 }
 
@@ -183,7 +170,7 @@ fn two_empty_areas_are_formatted_once(rt: HostRuntime) -> Result<(), Fail> {
 fn batches_are_written_by_four_calls_each_and_read_back(rt: HostRuntime) -> Result<(), Fail> {
     let alloc = rt.alloc();
     let empty = cut_area(alloc, 42, 0)?;
-    let disk = disk_of(alloc, &empty, &[], 11)?;
+    let disk = MemDisk::new(alloc, &empty, b"\x00", &[], 11, 256)?;
     let (mut journal, log) = opened(&rt, alloc, disk)?;
     assert_eq!(rt; log.len(), 0);
     match append(alloc, &mut journal, &AREA[47..60])? {
@@ -193,8 +180,8 @@ fn batches_are_written_by_four_calls_each_and_read_back(rt: HostRuntime) -> Resu
     assert_eq!(rt; journal.faults(), 0);
     let mut disk = journal.close();
     assert_eq!(rt; disk.len(Area::Left).is_err(), true, "eleven calls");
-    let mut image = disk.image(alloc, 11, 0)?;
-    has(&rt, alloc, &mut image, &AREA)?;
+    let image = disk.image(alloc, 11, 0)?;
+    has(&rt, &image, &AREA)?;
     assert_eq!(rt; count_of(&rt, alloc, image)?, 3);
     Ok(())
 }
@@ -203,7 +190,11 @@ fn batches_are_written_by_four_calls_each_and_read_back(rt: HostRuntime) -> Resu
 fn a_crash_leaves_the_log_without_or_with_the_batch(rt: HostRuntime) -> Result<(), Fail> {
     let alloc = rt.alloc();
     let area = cut_area(alloc, 60, 0)?;
-    let (mut journal, _) = opened(&rt, alloc, disk_of(alloc, &area, &[], 7)?)?;
+    let (mut journal, _) = opened(
+        &rt,
+        alloc,
+        MemDisk::new(alloc, &area, b"\x00", &[], 7, 256)?,
+    )?;
     assert_eq!(rt; append(alloc, &mut journal, &AREA[65..95])?, Written::Done);
     let disk = journal.close();
     for moment in 0..8 {
@@ -258,14 +249,14 @@ fn settled(rt: &impl Abort, alloc: Global, part: Part, case: Case) -> Result<Mem
 
 /// Each image of a batch that failed and was settled has the log without or with it, and at the end it has it.
 fn is_whole_or_not(rt: &impl Abort, alloc: Global, part: Part, case: Case) -> Result<(), Fail> {
-    let mut disk = settled(rt, alloc, part, case)?;
+    let disk = settled(rt, alloc, part, case)?;
     for moment in 0..16 {
         for pick in 0..8 {
             let count = count_of(rt, alloc, disk.image(alloc, moment, pick)?)?;
             assert!(rt; count == 1 || count == 3, "at {moment}, {pick}");
         }
     }
-    has(rt, alloc, &mut disk, &AREA)?;
+    has(rt, &disk, &AREA)?;
     assert_eq!(rt; count_of(rt, alloc, disk)?, 3);
     Ok(())
 }
@@ -291,7 +282,11 @@ fn a_gate_whose_write_failed_may_be_open(rt: HostRuntime) -> Result<(), Fail> {
 #[test]
 fn settling_nothing_calls_nothing(rt: HostRuntime) -> Result<(), Fail> {
     let alloc = rt.alloc();
-    let (mut journal, _) = opened(&rt, alloc, disk_of(alloc, &AREA, &[3], 4)?)?;
+    let (mut journal, _) = opened(
+        &rt,
+        alloc,
+        MemDisk::new(alloc, &AREA, b"\x00", &[3], 4, 256)?,
+    )?;
     assert_eq!(rt; (journal.settle(), journal.faults()), (Settled::Nothing, 0));
     assert_eq!(rt; journal.close().len(Area::Left).is_err(), true);
     area_laws();

@@ -1,5 +1,5 @@
 -- An entry that is read is spelled so, and what is spelled is read again. So no spelling begins another.
-use Rattle.std.proofs.Common.{◌≡◌, ◌⊎◌, ℕ, ◌^◌, ◌<◌, ◌≤◌, ◌+◌, ◌-◌, drop, length-append, Bool, true, false, cond, eqb, List, [], ◌∷◌, ◌++◌, length, Result, Ok, Err, refl, sym, ap, subst, ◌∙◌, arith, inl, inr}
+use Rattle.std.proofs.Common.{◌≡◌, ◌⊎◌, ℕ, ◌^◌, ◌<◌, ◌≤◌, ◌+◌, ◌-◌, drop, length-append, Bool, true, false, cond, eqb, List, [], ◌∷◌, ◌++◌, length, Option, Some, None, Ok, Err, refl, sym, ap, subst, ◌∙◌, arith, inl, inr}
 use Rattle.std.proofs.lemmas.Bool.{eqb-true}
 use Rattle.std.proofs.lemmas.List.{drop_at}
 use Rattle.edge_traits.specs.declared.names.PledgeId.{PledgeId}
@@ -8,10 +8,13 @@ use Rattle.journal_text.specs.declared.settings.Settings.{Settings}
 use Rattle.journal_text.specs.declared.refusal.Refusal.{Refusal}
 use Rattle.journal_text.specs.declared.entry.Entry.{Entry}
 use Rattle.journal_text.specs.declared.entry.Entry.TheVariants.{Settings as SettingsEntry, Enroll, Grant, Refuse, Block, Roll, Given, Stale, Switch, Release}
+use Rattle.journal_text.specs.declared.kind.Kind.{Kind}
+use Rattle.journal_text.specs.declared.kind.Kind.TheVariants as kind
+use Rattle.journal_text.specs.Kinds.{kind_code, kind_of}
 use Rattle.journal_text.specs.Codes.{IsReason}
 use Rattle.journal_text.specs.Numbers.{number_text}
 use Rattle.journal_text.specs.Text.{list_text, key_text, settings_text, reason_text, entry_text, AreItems, SettingsFit, Fits}
-use Rattle.journal_text.specs.Reading.{place, number_at, bytes_at, list_at, id_of, key_of, reason_at, settings_at, settings_entry_at, enroll_at, grant_at, refuse_at, block_at, roll_at, given_at, stale_at, switch_at, release_at, fields_at, entry_at}
+use Rattle.journal_text.specs.Reading.{place, number_at, bytes_at, list_at, id_of, key_of, reason_at, settings_at, settings_entry_at, enroll_at, grant_at, refuse_at, block_at, roll_at, given_at, stale_at, switch_at, release_at, fields_of, entry_at}
 use Rattle.journal_text.proofs.Fields.{IsBytes, IsBytes-rest, ok_is, finished, err_is_not_ok, Taken, Taken-then, Taken-byte, IsField, step, then_again, last_again, number2, number4, number5, number8, bytes, same}
 use Rattle.journal_text.proofs.Parts.{keys, reason, settings}
 
@@ -195,37 +198,64 @@ way : {A : Type 0} (b : Bool) (x y z : A) → cond b x y ≡ z → ((b ≡ true)
 way true x y z e = inl (refl, e)
 way false x y z e = inr e
 
--- the fields of this kind, or of another one
-kinded : (kind n : ℕ) (input : List ℕ) (e : Entry) (rest : List ℕ) (x o : Result (Entry × List ℕ) ℕ) → (x ≡ Ok (e, rest) → TakesEntry (n ∷ input) e rest)
-    → (o ≡ Ok (e, rest) → TakesEntry (kind ∷ input) e rest) → cond (eqb kind n) x o ≡ Ok (e, rest) → TakesEntry (kind ∷ input) e rest
-kinded kind n input e rest x o here other is =
-    elim (way (eqb kind n) x o (Ok (e, rest)) is) [
-      | inl found ↦ subst (λ (k : ℕ). TakesEntry (k ∷ input) e rest) (sym (eqb-true kind n found.0)) (here found.1)
+some_is : (x y : Kind) → Some x ≡ Some y → x ≡ y
+some_is x y e = cc
+
+none_is_not_some : (x : Kind) → None ≡ Some x → ⊥
+none_is_not_some x e = cc
+
+-- a kind was found in this test, or in the others
+coded : (code : ℕ) (k found : Kind) (others : Option Kind) → (others ≡ Some found → code ≡ kind_code found)
+    → cond (eqb code (kind_code k)) (Some k) others ≡ Some found → code ≡ kind_code found
+coded code k found others other is =
+    elim (way (eqb code (kind_code k)) (Some k) others (Some found) is) [
+      | inl here ↦ eqb-true code (kind_code k) here.0 ∙ ap kind_code (some_is k found here.1)
       | inr later ↦ other later
     ]
 
-fields_takes : (kind at end : ℕ) (input : List ℕ) (e : Entry) (rest : List ℕ) → IsBytes input → fields_at kind at end input ≡ Ok (e, rest) → TakesEntry (kind ∷ input) e rest
-unfolding fields_at
-fields_takes kind at end input e rest fits =
-    kinded kind 1 input e rest _ _ (settings_entry_takes end input e rest fits)
-    (kinded kind 2 input e rest _ _ (enroll_takes end input e rest fits)
-    (kinded kind 3 input e rest _ _ (grant_takes end input e rest fits)
-    (kinded kind 4 input e rest _ _ (refuse_takes end input e rest fits)
-    (kinded kind 5 input e rest _ _ (block_takes end input e rest fits)
-    (kinded kind 6 input e rest _ _ (roll_takes end input e rest fits)
-    (kinded kind 7 input e rest _ _ (given_takes end input e rest fits)
-    (kinded kind 8 input e rest _ _ (stale_takes end input e rest fits)
-    (kinded kind 9 input e rest _ _ (switch_takes end input e rest fits)
-    (kinded kind 10 input e rest _ _ (release_takes end input e rest fits)
-    (λ is. absurd (err_is_not_ok at (e, rest) is)))))))))))
+-- the code of a kind that was found
+kind_is : (code : ℕ) (found : Kind) → kind_of code ≡ Some found → code ≡ kind_code found
+kind_is code found =
+    coded code kind.Settings found _
+    (coded code kind.Enroll found _
+    (coded code kind.Grant found _
+    (coded code kind.Refuse found _
+    (coded code kind.Block found _
+    (coded code kind.Roll found _
+    (coded code kind.Given found _
+    (coded code kind.Stale found _
+    (coded code kind.Switch found _
+    (coded code kind.Release found _
+    (λ is. absurd (none_is_not_some found is)))))))))))
+
+-- what the fields of a kind give takes its code and the fields
+fields_take : (kind : Kind) (at end : ℕ) (input : List ℕ) (e : Entry) (rest : List ℕ) → IsBytes input
+    → fields_of (Some kind) at end input ≡ Ok (e, rest) → TakesEntry (kind_code kind ∷ input) e rest
+fields_take kind.Settings at end input e rest fits is = settings_entry_takes end input e rest fits is
+fields_take kind.Enroll at end input e rest fits is = enroll_takes end input e rest fits is
+fields_take kind.Grant at end input e rest fits is = grant_takes end input e rest fits is
+fields_take kind.Refuse at end input e rest fits is = refuse_takes end input e rest fits is
+fields_take kind.Block at end input e rest fits is = block_takes end input e rest fits is
+fields_take kind.Roll at end input e rest fits is = roll_takes end input e rest fits is
+fields_take kind.Given at end input e rest fits is = given_takes end input e rest fits is
+fields_take kind.Stale at end input e rest fits is = stale_takes end input e rest fits is
+fields_take kind.Switch at end input e rest fits is = switch_takes end input e rest fits is
+fields_take kind.Release at end input e rest fits is = release_takes end input e rest fits is
+
+found_takes : (code : ℕ) (found : Option Kind) (at end : ℕ) (input : List ℕ) (e : Entry) (rest : List ℕ) → kind_of code ≡ found → IsBytes input
+    → fields_of found at end input ≡ Ok (e, rest) → TakesEntry (code ∷ input) e rest
+found_takes code (Some found) at end input e rest same fits is =
+    subst (λ (c : ℕ). TakesEntry (c ∷ input) e rest) (sym (kind_is code found same)) (fields_take found at end input e rest fits is)
+found_takes code None at end input e rest same fits is = absurd (err_is_not_ok at (e, rest) is)
 
 entry_takes : (end : ℕ) (input : List ℕ) (e : Entry) (rest : List ℕ) → IsBytes input → entry_at end input ≡ Ok (e, rest) → TakesEntry input e rest
 unfolding entry_at
 entry_takes end [] e rest fits is = absurd (err_is_not_ok (place end []) (e, rest) is)
-entry_takes end (kind ∷ input) e rest fits is = fields_takes kind (place end (kind ∷ input)) end input e rest (IsBytes-rest kind input fits) is
+entry_takes end (code ∷ input) e rest fits is =
+    found_takes code (kind_of code) (place end (code ∷ input)) end input e rest refl (IsBytes-rest code input fits) is
 
 entry_again : (end : ℕ) (e : Entry) (rest : List ℕ) → Fits e → entry_at end (entry_text e ++ rest) ≡ Ok (e, rest)
-unfolding entry_at fields_at entry_text
+unfolding entry_at entry_text
 entry_again end (SettingsEntry time s) rest fit = settings_entry_again end time s rest fit
 entry_again end (Enroll context id check) rest fit = enroll_again end context id check rest fit
 entry_again end (Grant time context number address until) rest fit = grant_again end time context number address until rest fit

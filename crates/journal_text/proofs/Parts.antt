@@ -139,9 +139,9 @@ nothing : {A : Type 0} (x : A) → None ≡ Some x → ⊥
 nothing x e = cc
 
 -- a label that says a reason, or another one
-told : (label n : ℕ) (x why : Refusal) (o : Option Refusal) (code : ℕ) → Says code n x → (o ≡ Some why → Says code label why)
+labelled : (label n : ℕ) (x why : Refusal) (o : Option Refusal) (code : ℕ) → Says code n x → (o ≡ Some why → Says code label why)
     → cond (eqb label n) (Some x) o ≡ Some why → Says code label why
-told label n x why o code says other e =
+labelled label n x why o code says other e =
     elim (pick (eqb label n) x why o e) [
       | inl is ↦ subst (λ w. Says code label w) is.1 (subst (λ (l : ℕ). Says code l x) (sym (eqb-true label n is.0)) says)
       | inr later ↦ other later
@@ -149,23 +149,23 @@ told label n x why o code says other e =
 
 bad_request_is : (label : ℕ) (why : Refusal) → bad_request_of label ≡ Some why → Says 0x80 label why
 bad_request_is label why =
-    told label 0 refusal.Form why _ 0x80 (record { of_code = refl; of_label = refl; known = tt })
-    (told label 1 (refusal.Malformed 1) why _ 0x80 (record { of_code = refl; of_label = refl; known = inl refl })
-    (told label 5 (refusal.Malformed 5) why _ 0x80 (record { of_code = refl; of_label = refl; known = inr (inl refl) })
-    (told label 8 (refusal.Malformed 8) why _ 0x80 (record { of_code = refl; of_label = refl; known = inr (inr refl) })
-    (told label 65 (refusal.Unsupported 1) why _ 0x80 (record { of_code = refl; of_label = refl; known = refl })
+    labelled label 0 refusal.Form why _ 0x80 (record { of_code = refl; of_label = refl; known = tt })
+    (labelled label 1 (refusal.Malformed 1) why _ 0x80 (record { of_code = refl; of_label = refl; known = inl refl })
+    (labelled label 5 (refusal.Malformed 5) why _ 0x80 (record { of_code = refl; of_label = refl; known = inr (inl refl) })
+    (labelled label 8 (refusal.Malformed 8) why _ 0x80 (record { of_code = refl; of_label = refl; known = inr (inr refl) })
+    (labelled label 65 (refusal.Unsupported 1) why _ 0x80 (record { of_code = refl; of_label = refl; known = refl })
     (λ e. absurd (nothing why e))))))
 
 denied_is : (label : ℕ) (why : Refusal) → denied_of label ≡ Some why → Says 0x83 label why
 denied_is label why =
-    told label 1 (refusal.Denied 1) why _ 0x83 (record { of_code = refl; of_label = refl; known = (omega arith, omega arith) })
-    (told label 2 (refusal.Denied 2) why _ 0x83 (record { of_code = refl; of_label = refl; known = (omega arith, omega arith) })
-    (told label 3 (refusal.Denied 3) why _ 0x83 (record { of_code = refl; of_label = refl; known = (omega arith, omega arith) })
-    (told label 4 (refusal.Denied 4) why _ 0x83 (record { of_code = refl; of_label = refl; known = (omega arith, omega arith) })
+    labelled label 1 (refusal.Denied 1) why _ 0x83 (record { of_code = refl; of_label = refl; known = (omega arith, omega arith) })
+    (labelled label 2 (refusal.Denied 2) why _ 0x83 (record { of_code = refl; of_label = refl; known = (omega arith, omega arith) })
+    (labelled label 3 (refusal.Denied 3) why _ 0x83 (record { of_code = refl; of_label = refl; known = (omega arith, omega arith) })
+    (labelled label 4 (refusal.Denied 4) why _ 0x83 (record { of_code = refl; of_label = refl; known = (omega arith, omega arith) })
     (λ e. absurd (nothing why e)))))
 
 plain_is : (x : Refusal) (label : ℕ) (why : Refusal) → label_of x ≡ 0 → IsReason x → plain_of x label ≡ Some why → Says (code_of x) label why
-plain_is x label why none known = told label 0 x why None (code_of x) (record { of_code = refl; of_label = none; known = known }) (λ e. absurd (nothing why e))
+plain_is x label why none known = labelled label 0 x why None (code_of x) (record { of_code = refl; of_label = none; known = known }) (λ e. absurd (nothing why e))
 
 -- the code of one kind of reasons, or another one
 coded : (code n label : ℕ) (why : Refusal) (x o : Option Refusal) → (x ≡ Some why → Says n label why) → (o ≡ Some why → Says code label why)
@@ -186,22 +186,22 @@ reason_is code label why =
     (coded code 0xa3 label why _ _ (plain_is refusal.NoAddress label why refl tt)
     (λ e. absurd (nothing why e)))))))
 
-reason_told : (why : Refusal) → IsReason why → reason_of (code_of why) (label_of why) ≡ Some why
-reason_told refusal.Form known = refl
-reason_told (refusal.Malformed label) (inl is) = rw is refl
-reason_told (refusal.Malformed label) (inr (inl is)) = rw is refl
-reason_told (refusal.Malformed label) (inr (inr is)) = rw is refl
-reason_told (refusal.Unsupported label) known = rw known refl
-reason_told refusal.Option known = refl
-reason_told (refusal.Denied zero) known = absurd (omega (arith, known.0))
-reason_told (refusal.Denied (suc zero)) known = refl
-reason_told (refusal.Denied (suc (suc zero))) known = refl
-reason_told (refusal.Denied (suc (suc (suc zero)))) known = refl
-reason_told (refusal.Denied (suc (suc (suc (suc zero))))) known = refl
-reason_told (refusal.Denied (suc (suc (suc (suc (suc n)))))) known = absurd (omega (arith, known.1))
-reason_told refusal.Path known = refl
-reason_told refusal.Method known = refl
-reason_told refusal.NoAddress known = refl
+reason_spelled : (why : Refusal) → IsReason why → reason_of (code_of why) (label_of why) ≡ Some why
+reason_spelled refusal.Form known = refl
+reason_spelled (refusal.Malformed label) (inl is) = rw is refl
+reason_spelled (refusal.Malformed label) (inr (inl is)) = rw is refl
+reason_spelled (refusal.Malformed label) (inr (inr is)) = rw is refl
+reason_spelled (refusal.Unsupported label) known = rw known refl
+reason_spelled refusal.Option known = refl
+reason_spelled (refusal.Denied zero) known = absurd (omega (arith, known.0))
+reason_spelled (refusal.Denied (suc zero)) known = refl
+reason_spelled (refusal.Denied (suc (suc zero))) known = refl
+reason_spelled (refusal.Denied (suc (suc (suc zero)))) known = refl
+reason_spelled (refusal.Denied (suc (suc (suc (suc zero))))) known = refl
+reason_spelled (refusal.Denied (suc (suc (suc (suc (suc n)))))) known = absurd (omega (arith, known.1))
+reason_spelled refusal.Path known = refl
+reason_spelled refusal.Method known = refl
+reason_spelled refusal.NoAddress known = refl
 
 found_is : {X : Type 0} (at : ℕ) (o : Option X) (input : List ℕ) (x : X) (rest : List ℕ) → found_at at o input ≡ Ok (x, rest) → (o ≡ Some x) × (input ≡ rest)
 found_is at None input x rest e = absurd (err_is_not_ok at (x, rest) e)
@@ -221,7 +221,7 @@ reason_takes end (code ∷ label ∷ input) why rest fits e =
 
 reason_again : (end : ℕ) (why : Refusal) (rest : List ℕ) → IsReason why → reason_at end (reason_text why ++ rest) ≡ Ok (why, rest)
 unfolding reason_at
-reason_again end why rest known = rw (reason_told why known) refl
+reason_again end why rest known = rw (reason_spelled why known) refl
 
 pub reason : IsField reason_at reason_text IsReason
 reason = record { takes = reason_takes; again = reason_again }

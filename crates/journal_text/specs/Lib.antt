@@ -1,3 +1,4 @@
+pub mod Kinds
 pub mod Codes
 pub mod Numbers
 pub mod Text

@@ -7,6 +7,10 @@ use Rattle.journal_text.specs.declared.refusal.Refusal.TheVariants as refusal
 use Rattle.journal_text.specs.declared.entry.Entry.{Entry}
 use Rattle.journal_text.specs.declared.entry.Entry.TheVariants.{Settings as SettingsEntry, Enroll, Grant, Refuse, Block, Roll, Given, Stale, Switch, Release}
 use Rattle.journal_text.specs.declared.fault.Bad.{Bad}
+use Rattle.journal_text.specs.declared.kind.Kind.{Kind}
+use Rattle.journal_text.specs.declared.kind.Kind.TheVariants as kind
+use Rattle.journal_text.specs.Kinds.{kind_of}
+use Rattle.journal_text.specs.Codes.{code_of}
 use Rattle.journal_text.specs.Numbers.{number_of}
 
 -- the place of what is left of an input of `end` bytes
@@ -104,12 +108,12 @@ plain_of why label = if label == 0 then Some why else None
 
 abbrev pub reason_of : ℕ → ℕ → Option Refusal
 reason_of code label =
-    if code == 0x80 then bad_request_of label
-    else (if code == 0x82 then plain_of refusal.Option label
-    else (if code == 0x83 then denied_of label
-    else (if code == 0x84 then plain_of refusal.Path label
-    else (if code == 0x85 then plain_of refusal.Method label
-    else (if code == 0xa3 then plain_of refusal.NoAddress label else None)))))
+    if code == code_of refusal.Form then bad_request_of label
+    else (if code == code_of refusal.Option then plain_of refusal.Option label
+    else (if code == code_of (refusal.Denied label) then denied_of label
+    else (if code == code_of refusal.Path then plain_of refusal.Path label
+    else (if code == code_of refusal.Method then plain_of refusal.Method label
+    else (if code == code_of refusal.NoAddress then plain_of refusal.NoAddress label else None)))))
 
 -- what was found at this place, or nothing
 abbrev pub found_at : {X : Type 0} → ℕ → Option X → List ℕ → Result (X × List ℕ) ℕ
@@ -194,25 +198,24 @@ release_at end bytes = do
   id ← bytes_at 8 end time.1
   Ok (Release time.0 (id_of id.0), id.1)
 
--- the entry after this kind byte, which is at this place
-unfoldable pub fields_at : ℕ → ℕ → ℕ → List ℕ → Result (Entry × List ℕ) ℕ
-fields_at kind at end bytes =
-    if kind == 1 then settings_entry_at end bytes
-    else (if kind == 2 then enroll_at end bytes
-    else (if kind == 3 then grant_at end bytes
-    else (if kind == 4 then refuse_at end bytes
-    else (if kind == 5 then block_at end bytes
-    else (if kind == 6 then roll_at end bytes
-    else (if kind == 7 then given_at end bytes
-    else (if kind == 8 then stale_at end bytes
-    else (if kind == 9 then switch_at end bytes
-    else (if kind == 10 then release_at end bytes
-    else Err at)))))))))
+-- the entry of this kind after its first byte, which is at this place
+abbrev pub fields_of : Option Kind → ℕ → ℕ → List ℕ → Result (Entry × List ℕ) ℕ
+fields_of (Some kind.Settings) at end bytes = settings_entry_at end bytes
+fields_of (Some kind.Enroll) at end bytes = enroll_at end bytes
+fields_of (Some kind.Grant) at end bytes = grant_at end bytes
+fields_of (Some kind.Refuse) at end bytes = refuse_at end bytes
+fields_of (Some kind.Block) at end bytes = block_at end bytes
+fields_of (Some kind.Roll) at end bytes = roll_at end bytes
+fields_of (Some kind.Given) at end bytes = given_at end bytes
+fields_of (Some kind.Stale) at end bytes = stale_at end bytes
+fields_of (Some kind.Switch) at end bytes = switch_at end bytes
+fields_of (Some kind.Release) at end bytes = release_at end bytes
+fields_of None at end bytes = Err at
 
 -- the entry at the start of the last bytes of an input of `end` bytes, and the bytes after it
 unfoldable pub entry_at : ℕ → List ℕ → Result (Entry × List ℕ) ℕ
 entry_at end [] = Err (place end [])
-entry_at end (kind ∷ bytes) = fields_at kind (place end (kind ∷ bytes)) end bytes
+entry_at end (code ∷ bytes) = fields_of (kind_of code) (place end (code ∷ bytes)) end bytes
 
 -- ---- the answer of a call
 

@@ -7,6 +7,8 @@ use Rattle.journal_text.specs.declared.refusal.Refusal.{Refusal}
 use Rattle.journal_text.specs.declared.refusal.Refusal.TheVariants.{Malformed, Unsupported, Denied}
 use Rattle.journal_text.specs.declared.entry.Entry.{Entry}
 use Rattle.journal_text.specs.declared.entry.Entry.TheVariants.{Settings as SettingsEntry, Enroll, Grant, Refuse, Block, Roll, Given, Stale, Switch, Release}
+use Rattle.journal_text.specs.declared.kind.Kind.TheVariants as kind
+use Rattle.journal_text.specs.Kinds.{kind_code}
 use Rattle.journal_text.specs.Codes.{code_of, IsReason}
 use Rattle.journal_text.specs.Numbers.{number_text}
 
@@ -47,19 +49,19 @@ reason_text why = code_of why ∷ label_of why ∷ []
 -- ---- entries
 
 unfoldable pub entry_text : Entry → List ℕ
-entry_text (SettingsEntry time settings) = 1 ∷ (number_text 8 time ++ settings_text settings)
-entry_text (Enroll context id check) = 2 ∷ (number_text 4 context ++ (id.0 ++ check))
+entry_text (SettingsEntry time settings) = kind_code kind.Settings ∷ (number_text 8 time ++ settings_text settings)
+entry_text (Enroll context id check) = kind_code kind.Enroll ∷ (number_text 4 context ++ (id.0 ++ check))
 entry_text (Grant time context number address until) =
-    3 ∷ (number_text 8 time ++ (number_text 4 context ++ (number_text 5 number ++ (number_text 2 address ++ number_text 8 until))))
+    kind_code kind.Grant ∷ (number_text 8 time ++ (number_text 4 context ++ (number_text 5 number ++ (number_text 2 address ++ number_text 8 until))))
 entry_text (Refuse time context number why) =
-    4 ∷ (number_text 8 time ++ (number_text 4 context ++ (number_text 5 number ++ reason_text why)))
-entry_text (Block context to) = 5 ∷ (number_text 4 context ++ number_text 8 to)
-entry_text (Roll time set) = 6 ∷ (number_text 8 time ++ (number_text 4 set.epoch ++ list_text key_text set.keys.items))
+    kind_code kind.Refuse ∷ (number_text 8 time ++ (number_text 4 context ++ (number_text 5 number ++ reason_text why)))
+entry_text (Block context to) = kind_code kind.Block ∷ (number_text 4 context ++ number_text 8 to)
+entry_text (Roll time set) = kind_code kind.Roll ∷ (number_text 8 time ++ (number_text 4 set.epoch ++ list_text key_text set.keys.items))
 entry_text (Given time context number epoch) =
-    7 ∷ (number_text 8 time ++ (number_text 4 context ++ (number_text 5 number ++ number_text 4 epoch)))
-entry_text (Stale time id epoch) = 8 ∷ (number_text 8 time ++ (id.0 ++ number_text 4 epoch))
-entry_text (Switch time epoch) = 9 ∷ (number_text 8 time ++ number_text 4 epoch)
-entry_text (Release time id) = 10 ∷ (number_text 8 time ++ id.0)
+    kind_code kind.Given ∷ (number_text 8 time ++ (number_text 4 context ++ (number_text 5 number ++ number_text 4 epoch)))
+entry_text (Stale time id epoch) = kind_code kind.Stale ∷ (number_text 8 time ++ (id.0 ++ number_text 4 epoch))
+entry_text (Switch time epoch) = kind_code kind.Switch ∷ (number_text 8 time ++ number_text 4 epoch)
+entry_text (Release time id) = kind_code kind.Release ∷ (number_text 8 time ++ id.0)
 
 -- the entries, one after another
 abbrev pub entries_text : List Entry → List ℕ

@@ -1,11 +1,13 @@
 // The entries of the journal, one for each decision of the registrar, and how each is spelled.
 // It promises the layers above that an entry is written in one way and read back as the same, that nothing else is read,
-// and that no entry's spelling begins another's. Definitions are in specs/: Codes, Numbers, Text, Reading and Laws.
+// and that no entry's spelling begins another's. Definitions are in specs/: Kinds, Codes, Numbers, Text,
+// Reading and Laws.
 #![tactic(auto)]
 
 mod entry;
 mod fault;
 mod field;
+mod kind;
 mod laws;
 mod part;
 mod read;
@@ -18,6 +20,7 @@ mod write;
 
 pub use entry::Entry;
 pub use fault::{Bad, Full};
+pub use kind::Kind;
 pub use laws::entry_law;
 pub use read::read_entry;
 pub use refusal::Refusal;

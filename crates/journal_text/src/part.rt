@@ -3,6 +3,9 @@ ghost use Rattle.std.specs.Prelude.{◌≡◌, ◌≤◌, ◌<◌, ℕ, IfOk, op
 ghost use Rattle.journal_text.specs.Reading.{Gives, options_by, options_at, items_at, list_at, id_of, key_of, reason_of, reason_at, settings_at, place};
 
 use crate::field::{bad, read_bytes, read_u16, read_u32};
+use crate::refusal::{
+    BAD_OPTION, BAD_REQUEST, FORBIDDEN, METHOD_NOT_ALLOWED, NOT_FOUND, SERVICE_UNAVAILABLE,
+};
 use crate::{Bad, Refusal, Settings};
 use arrayvec::ArrayVec;
 use edge_traits::PledgeId;
@@ -133,14 +136,14 @@ fn reason_by(code: u8, label: u8) -> Option<Refusal>
     ensures { result ≡ reason_of code label }
 {
     match (code, label) {
-        (0x80, 0) => Some(Refusal::Form),
-        (0x80, 1 | 5 | 8) => Some(Refusal::Malformed(label)),
-        (0x80, 65) => Some(Refusal::Unsupported(1)),
-        (0x82, 0) => Some(Refusal::Option),
-        (0x83, 1..=4) => Some(Refusal::Denied(label)),
-        (0x84, 0) => Some(Refusal::Path),
-        (0x85, 0) => Some(Refusal::Method),
-        (0xa3, 0) => Some(Refusal::NoAddress),
+        (BAD_REQUEST, 0) => Some(Refusal::Form),
+        (BAD_REQUEST, 1 | 5 | 8) => Some(Refusal::Malformed(label)),
+        (BAD_REQUEST, 65) => Some(Refusal::Unsupported(1)),
+        (BAD_OPTION, 0) => Some(Refusal::Option),
+        (FORBIDDEN, 1..=4) => Some(Refusal::Denied(label)),
+        (NOT_FOUND, 0) => Some(Refusal::Path),
+        (METHOD_NOT_ALLOWED, 0) => Some(Refusal::Method),
+        (SERVICE_UNAVAILABLE, 0) => Some(Refusal::NoAddress),
         _ => None,
     }
 }

@@ -2,11 +2,11 @@
 ghost use Rattle.std.specs.Prelude.{◌≡◌, ◌++◌, ℕ, List, Ok, IfOk, IsErr, length, drop};
 ghost use Rattle.journal_text.specs.declared.entry.Entry.{Entry};
 ghost use Rattle.journal_text.specs.Text.{Fits, entry_text};
-ghost use Rattle.journal_text.specs.Reading.{Gives, settings_entry_at, enroll_at, grant_at, refuse_at, block_at, roll_at, given_at, stale_at, switch_at, release_at, fields_at, entry_at, IsEntryRead};
+ghost use Rattle.journal_text.specs.Reading.{Gives, settings_entry_at, enroll_at, grant_at, refuse_at, block_at, roll_at, given_at, stale_at, switch_at, release_at, fields_of, entry_at, IsEntryRead};
 
 use crate::field::{bad, read_bytes, read_u16, read_u32, read_u40, read_u64};
 use crate::part::{read_keys, read_reason, read_settings};
-use crate::{Bad, Entry};
+use crate::{Bad, Entry, Kind};
 use edge_traits::PledgeId;
 use key_sets::KeySet;
 
@@ -136,23 +136,22 @@ fn read_release(end: usize, bytes: &[u8]) -> Read<'_>
     Ok((Entry::Release { time, id }, rest))
 }
 
-/// The fields after a kind byte.
-#[tactic(auto, unfolding(crate::specs::Reading::fields_at))]
-fn read_fields(kind: u8, bad: Bad, end: usize, bytes: &[u8]) -> Read<'_>
-    ensures { Gives (λ x. (x.0, x.1.now)) result (fields_at kind bad.0 end bytes.now) }
+/// The fields of this kind after its first byte.
+fn read_fields(kind: Option<Kind>, bad: Bad, end: usize, bytes: &[u8]) -> Read<'_>
+    ensures { Gives (λ x. (x.0, x.1.now)) result (fields_of kind bad.0 end bytes.now) }
 {
     match kind {
-        1 => read_settings_entry(end, bytes),
-        2 => read_enroll(end, bytes),
-        3 => read_grant(end, bytes),
-        4 => read_refuse(end, bytes),
-        5 => read_block(end, bytes),
-        6 => read_roll(end, bytes),
-        7 => read_given(end, bytes),
-        8 => read_stale(end, bytes),
-        9 => read_switch(end, bytes),
-        10 => read_release(end, bytes),
-        _ => Err(bad),
+        Some(Kind::Settings) => read_settings_entry(end, bytes),
+        Some(Kind::Enroll) => read_enroll(end, bytes),
+        Some(Kind::Grant) => read_grant(end, bytes),
+        Some(Kind::Refuse) => read_refuse(end, bytes),
+        Some(Kind::Block) => read_block(end, bytes),
+        Some(Kind::Roll) => read_roll(end, bytes),
+        Some(Kind::Given) => read_given(end, bytes),
+        Some(Kind::Stale) => read_stale(end, bytes),
+        Some(Kind::Switch) => read_switch(end, bytes),
+        Some(Kind::Release) => read_release(end, bytes),
+        None => Err(bad),
     }
 }
 
@@ -162,7 +161,7 @@ fn read_prefix(end: usize, bytes: &[u8]) -> Read<'_>
 {
     match bytes {
         [] => Err(bad(end, bytes)),
-        [kind, rest @ ..] => read_fields(*kind, bad(end, bytes), end, rest),
+        [code, rest @ ..] => read_fields(Kind::of(*code), bad(end, bytes), end, rest),
     }
 }
 

@@ -3,11 +3,12 @@ ghost use Rattle.std.specs.Prelude.{◌≡◌, ◌<◌, ◌≤◌, ◌+◌, ◌*
 ghost use Rattle.std.specs.List.{flat_map, AllByRecursion};
 ghost use Rattle.arrayvec.specs.ArrayVec.{array_vec_len};
 ghost use Rattle.journal_text.specs.declared.entry.Entry.TheVariants as entries;
+ghost use Rattle.journal_text.specs.Kinds.{kind_code};
 ghost use Rattle.journal_text.specs.Codes.{IsReason};
 ghost use Rattle.journal_text.specs.Numbers.{number_text};
 ghost use Rattle.journal_text.specs.Text.{options_text, list_text, id_text, key_text, settings_text, reason_text, entry_text, label_of, SettingsFit, AreItems, Fits, IsSpellable};
 
-use crate::{Entry, Full, Refusal, Settings};
+use crate::{Entry, Full, Kind, Refusal, Settings};
 use arrayvec::ArrayVec;
 use edge_traits::PledgeId;
 use key_sets::KeySet;
@@ -17,12 +18,12 @@ const MAX_ENTRY: usize = 165;
 
 type Text = ArrayVec<u8, MAX_ENTRY>;
 
-/// A text that has its kind byte.
-fn begin(kind: u8) -> Text
-    ensures { result.items ≡ kind ∷ [] }
+/// A text with the first byte of its kind.
+fn begin(kind: Kind) -> Text
+    ensures { result.items ≡ kind_code kind ∷ [] }
 {
     let mut text = ArrayVec::new();
-    text.push(kind);
+    text.push(kind.code());
     text
 }
 
@@ -176,7 +177,7 @@ fn settings_entry(time: u64, settings: &Settings) -> Text
     ensures items { result.items ≡ entry_text (entries.Settings time settings.now) }
     ensures fit { Fits (entries.Settings time settings.now) }
 {
-    let mut text = begin(1);
+    let mut text = begin(Kind::Settings);
     put_u64(&mut text, time);
     put_settings(&mut text, settings);
     text
@@ -187,7 +188,7 @@ fn enroll(context: u32, id: PledgeId, check: [u8; 32]) -> Text
     ensures items { result.items ≡ entry_text (entries.Enroll context id check) }
     ensures fit { Fits (entries.Enroll context id check) }
 {
-    let mut text = begin(2);
+    let mut text = begin(Kind::Enroll);
     put_u32(&mut text, context);
     put(&mut text, &id.0);
     put(&mut text, &check);
@@ -200,7 +201,7 @@ fn grant(time: u64, context: u32, number: u64, address: u16, until: u64) -> Text
     ensures items { result.items ≡ entry_text (entries.Grant time context number address until) }
     ensures fit { Fits (entries.Grant time context number address until) }
 {
-    let mut text = begin(3);
+    let mut text = begin(Kind::Grant);
     put_u64(&mut text, time);
     put_u32(&mut text, context);
     put_u40(&mut text, number);
@@ -216,7 +217,7 @@ fn refuse(time: u64, context: u32, number: u64, why: Refusal) -> Text
     ensures items { result.items ≡ entry_text (entries.Refuse time context number why) }
     ensures fit { Fits (entries.Refuse time context number why) }
 {
-    let mut text = begin(4);
+    let mut text = begin(Kind::Refuse);
     put_u64(&mut text, time);
     put_u32(&mut text, context);
     put_u40(&mut text, number);
@@ -229,7 +230,7 @@ fn block(context: u32, to: u64) -> Text
     ensures items { result.items ≡ entry_text (entries.Block context to) }
     ensures fit { Fits (entries.Block context to) }
 {
-    let mut text = begin(5);
+    let mut text = begin(Kind::Block);
     put_u32(&mut text, context);
     put_u64(&mut text, to);
     text
@@ -240,7 +241,7 @@ fn roll(time: u64, set: &KeySet) -> Text
     ensures items { result.items ≡ entry_text (entries.Roll time set.now) }
     ensures fit { Fits (entries.Roll time set.now) }
 {
-    let mut text = begin(6);
+    let mut text = begin(Kind::Roll);
     put_u64(&mut text, time);
     put_u32(&mut text, set.epoch);
     put_keys(&mut text, set.keys.as_slice());
@@ -253,7 +254,7 @@ fn given(time: u64, context: u32, number: u64, epoch: u32) -> Text
     ensures items { result.items ≡ entry_text (entries.Given time context number epoch) }
     ensures fit { Fits (entries.Given time context number epoch) }
 {
-    let mut text = begin(7);
+    let mut text = begin(Kind::Given);
     put_u64(&mut text, time);
     put_u32(&mut text, context);
     put_u40(&mut text, number);
@@ -266,7 +267,7 @@ fn stale(time: u64, id: PledgeId, epoch: u32) -> Text
     ensures items { result.items ≡ entry_text (entries.Stale time id epoch) }
     ensures fit { Fits (entries.Stale time id epoch) }
 {
-    let mut text = begin(8);
+    let mut text = begin(Kind::Stale);
     put_u64(&mut text, time);
     put(&mut text, &id.0);
     put_u32(&mut text, epoch);
@@ -278,7 +279,7 @@ fn switch(time: u64, epoch: u32) -> Text
     ensures items { result.items ≡ entry_text (entries.Switch time epoch) }
     ensures fit { Fits (entries.Switch time epoch) }
 {
-    let mut text = begin(9);
+    let mut text = begin(Kind::Switch);
     put_u64(&mut text, time);
     put_u32(&mut text, epoch);
     text
@@ -289,7 +290,7 @@ fn release(time: u64, id: PledgeId) -> Text
     ensures items { result.items ≡ entry_text (entries.Release time id) }
     ensures fit { Fits (entries.Release time id) }
 {
-    let mut text = begin(10);
+    let mut text = begin(Kind::Release);
     put_u64(&mut text, time);
     put(&mut text, &id.0);
     text

@@ -176,7 +176,7 @@ impl Case {
         }
     }
 
-    /// Repeats the case, and tells whether its last answer is another than what it began with: each answer is used, so
+    /// Repeats the case, and says whether its last answer is another than what it began with: each answer is used, so
     /// that the compiler leaves none out.
     pub fn repeat<R: Wait>(&self, rt: &R, alloc: Global, count: u64) -> bool {
         match self {
@@ -261,7 +261,7 @@ fn derives(count: u64) -> [u8; 16] {
     key
 }
 
-/// The last of so many numbers, by as many tables as it takes.
+/// The last of `count` numbers, by as many tables as it takes.
 fn draws(alloc: Global, count: u64) -> Option<u64> {
     let mut last = None;
     let mut left = count;

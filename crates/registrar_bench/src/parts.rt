@@ -67,7 +67,7 @@ pub fn looks(alloc: Global, look: Look, count: u64) -> Option<u64> {
     Some(right)
 }
 
-/// How many grants are kept after so many renewals, with each of which one grant is forgotten once
+/// How many grants are kept after `count` renewals, with each of which one grant is forgotten once
 /// the first ones are over.
 pub fn renewals(alloc: Global, count: u64) -> Option<u32> {
     let mut leases = filled(alloc)?;
@@ -78,7 +78,7 @@ pub fn renewals(alloc: Global, count: u64) -> Option<u32> {
     Some(leases.kept())
 }
 
-/// How many grants are kept after so many releases, after each of which the address is granted
+/// How many grants are kept after `count` releases, after each of which the address is granted
 /// anew.
 pub fn releases(alloc: Global, count: u64) -> Option<u32> {
     let mut leases = filled(alloc)?;
@@ -143,7 +143,7 @@ impl Draws {
     }
 }
 
-/// The window after so many numbers, each of which is judged and, where it is fresh, taken. A
+/// The window after `count` numbers, each of which is judged and, where it is fresh, taken. A
 /// number is a fourth of those before it and up to 39 more.
 pub fn windows(count: u64, seed: u64) -> Option<(u64, u32)> {
     let mut window = Window::empty();

@@ -7,6 +7,7 @@ ghost use Rattle.registrar_bench.specs.States.{AreEnrolled};
 
 use crate::parts::{Draws, pledge};
 use arrayvec::ArrayVec;
+use join_history::ENTRY_LIMIT;
 use journal_text::{Entry, Settings};
 use key_sets::KeySet;
 use registrar_state::{Due, RegState, Want};
@@ -14,9 +15,6 @@ use std::alloc::Global;
 
 /// How many pledges there are.
 const PLEDGES: u16 = 16_384;
-
-/// How many entries fit that aren't an Enroll.
-const ROOM: u32 = 262_144;
 
 /// How many renewals fit after the settings and the first Grants.
 const RENEWALS: u64 = 245_759;
@@ -68,7 +66,7 @@ fn grant(context: u16, number: u64, now: u64) -> Entry
     }
 }
 
-/// Adds the entry where it may follow, and tells whether it may.
+/// Adds the entry where it may follow, and says whether it may.
 fn add(state: &mut RegState, entry: &Entry) -> bool
     requires some { IsSome state.old }
     requires room { HasRoomFor (spare_room state.old) entry.now }
@@ -87,7 +85,7 @@ fn opened(alloc: Global) -> Option<RegState>
     ensures enrolled { IfSome result (λ state. AreEnrolled state 0) }
     ensures room { IfSome result (λ state. 262143 ≤ (spare_room state).entries) }
 {
-    let Ok(mut state) = RegState::empty(alloc, PLEDGES as u32, ROOM) else {
+    let Ok(mut state) = RegState::empty(alloc, PLEDGES as u32, ENTRY_LIMIT) else {
         return None;
     };
     let entry = Entry::Settings {
@@ -132,7 +130,7 @@ fn enrolled(alloc: Global) -> Option<RegState>
     Some(state)
 }
 
-/// Adds what a join is due, and tells whether that is its Grant.
+/// Adds what a join is due, and says whether that is its Grant.
 fn join(state: &mut RegState, context: u16, number: u64, now: u64) -> bool
     requires enrolled { AreEnrolled state.old 16384 }
     requires context { context < 16384 }

@@ -1,10 +1,10 @@
 -- Entries that are written in batches, one after another.
 use Rattle.std.proofs.Common.{◌≡◌, ℕ, ◌≤◌, List, [], ◌++◌, length, refl, sym, ap, subst, ◌∙◌, append_assoc, append-nil, arith, length-append, inl}
 use Rattle.edge_traits.specs.Disk.{Areas, LeavesOnly}
+use Rattle.edge_traits.proofs.Moments.{LeavesOnly-map}
 use Rattle.journal_text.specs.declared.entry.Entry.{Entry}
 use Rattle.journal_store.specs.declared.journal.Journal.{Journal}
 use Rattle.journal_store.specs.Store.{disk_of}
-use Rattle.journal_store.proofs.Steps.{LeavesOnly-map}
 use Rattle.registrar_book.specs.Journals.{HasLog, HasPrefix, AreSmall}
 use Rattle.registrar_book.proofs.Prefixes.{longer_prefix, settled_then, stayed}
 
@@ -54,7 +54,7 @@ module _ {D : Type 0} (may_leave : D → Areas → Type 0) (moment : D → ℕ) 
         → LeavesOnly moment left_since (disk_of old) (disk_of new) (HasPrefix (length log) (log ++ entries))
     cut_put t log stands =
         let same : log ++ entries ≡ (log ++ (so.prefix ++ batch)) ++ after = ap (λ (l : List Entry). log ++ l) cut_parts ∙ sym (append_assoc log (so.prefix ++ batch) after) in
-        LeavesOnly-map moment left_since may_leave (disk_of old) (disk_of new) (HasPrefix (length log) (log ++ (so.prefix ++ batch)))
+        LeavesOnly-map moment left_since (disk_of old) (disk_of new) (HasPrefix (length log) (log ++ (so.prefix ++ batch)))
         (HasPrefix (length log) (log ++ entries)) (more_moments t log stands)
         (λ image has. longer_prefix (length log) (log ++ (so.prefix ++ batch)) after (log ++ entries) image same has)
 

@@ -3,6 +3,7 @@ use Rattle.std.proofs.Common.{◌≡◌, ℕ, ◌+◌, ◌<◌, ◌≤◌, Bool,
 use Rattle.std.specs.Prelude.{IsTrue}
 use Rattle.journal_text.specs.declared.entry.Entry.{Entry}
 use Rattle.journal_text.specs.declared.entry.Entry.TheVariants.{Settings, Enroll, Grant, Refuse, Block, Roll, Given, Stale, Switch, Release}
+use Rattle.join_history.specs.Limits.{context_limit}
 use Rattle.join_history.specs.Contexts.{context_count}
 use Rattle.registrar_state.specs.declared.room.Room.{Room}
 use Rattle.join_history.specs.Legal.{MayFollow}
@@ -23,8 +24,8 @@ context_count-push (Enroll context p k ∷ h) e = omega (arith, context_count-pu
 context_count-push (_ ∷ h) e = context_count-push h e
 
 -- what is left of the room for an entry more
-pub room_more : (old new : Room) (e : Entry) (h : List Entry) (most i : ℕ) → TakesRoom old new e → old.contexts + context_count h ≡ 32768 → most ≤ old.entries + i
-    → (new.contexts + context_count (h ++ e ∷ []) ≡ 32768) × (most ≤ new.entries + (i + 1))
+pub room_more : (old new : Room) (e : Entry) (h : List Entry) (most i : ℕ) → TakesRoom old new e → old.contexts + context_count h ≡ context_limit → most ≤ old.entries + i
+    → (new.contexts + context_count (h ++ e ∷ []) ≡ context_limit) × (most ≤ new.entries + (i + 1))
 room_more old new (Enroll context id check) h most i takes contexts entries =
     (omega (arith, takes.contexts, contexts, context_count-push h (Enroll context id check)), omega (arith, takes.entries, entries))
 room_more old new (Settings time settings) h most i takes contexts entries =
@@ -60,7 +61,7 @@ most_room old new (Switch time epoch) takes = omega (arith, takes.entries)
 most_room old new (Release time id) takes = omega (arith, takes.entries)
 
 -- an entry that may follow has room where some is left for entries, and where the contexts and their room make the limit
-pub has_room : (room : Room) (e : Entry) (h : List Entry) → MayFollow h e → room.contexts + context_count h ≡ 32768 → 0 < room.entries
+pub has_room : (room : Room) (e : Entry) (h : List Entry) → MayFollow h e → room.contexts + context_count h ≡ context_limit → 0 < room.entries
     → HasRoomFor room e
 has_room room (Enroll context id check) h may contexts entries = let next = may.0 in let below = may.1 in omega (arith, next, below, contexts)
 has_room room (Settings time settings) h may contexts entries = entries

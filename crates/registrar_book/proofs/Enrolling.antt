@@ -5,6 +5,7 @@ use Rattle.std.specs.Prelude.{Contains}
 use Rattle.edge_traits.specs.declared.names.PledgeId.{PledgeId}
 use Rattle.journal_text.specs.declared.entry.Entry.{Entry}
 use Rattle.journal_text.specs.declared.entry.Entry.TheVariants.{Settings, Enroll, Grant, Refuse, Block, Roll, Given, Stale, Switch, Release}
+use Rattle.join_history.specs.Limits.{context_limit}
 use Rattle.join_history.specs.Contexts.{context_count}
 use Rattle.join_history.specs.Legal.{IsLegal}
 use Rattle.join_history.specs.Opening.{EnrollsRows}
@@ -86,7 +87,7 @@ pub record Enrolls (h : List Entry) (rows new : List Row) : Type 0 where
   pub fresh : List Row
   pub parts : new ≡ known_of h ++ fresh
   pub enrolls_rows : EnrollsRows h rows (h ++ enrolls (context_count h) fresh)
-  pub legal : IsLegal h → length new ≤ 32768 → IsLegal (h ++ enrolls (context_count h) fresh)
+  pub legal : IsLegal h → length new ≤ context_limit → IsLegal (h ++ enrolls (context_count h) fresh)
 
 -- one row is enrolled as the next context
 next : List Entry → Row → List Entry
@@ -100,7 +101,7 @@ count_next : (h : List Entry) (row : Row) → context_count (next h row) ≡ con
 unfolding next
 count_next h row = context_count-push h (Enroll (context_count h) row.0 row.1)
 
-legal_next : (h : List Entry) (row : Row) → IsLegal h → context_count h < 32768 → (Knows (known_of h) row.1 → ⊥) → IsLegal (next h row)
+legal_next : (h : List Entry) (row : Row) → IsLegal h → context_count h < context_limit → (Knows (known_of h) row.1 → ⊥) → IsLegal (next h row)
 unfolding next
 legal_next h row legal few unknown =
     IsLegal-push h (Enroll (context_count h) row.0 row.1) legal (refl, few, λ has. unknown (has.1, enrolled_known h has.0 has.1 row.1 has.2))
@@ -129,7 +130,7 @@ enroll_rows h (row ∷ rows) new (between, inr has, rest) =
       enrolls_rows = inr (λ check. has.0 (check.1, enrolled_known h check.0 check.1 row.1 check.2), subst (λ (l : List Entry). EnrollsRows (next h row) rows l) same more.enrolls_rows);
       legal = λ legal few.
           let long = placed_longer (known_of (next h row)) rows new known in
-          let count : context_count h < 32768 = omega (arith, long, few, known_count (next h row), count_next h row) in
+          let count : context_count h < context_limit = omega (arith, long, few, known_count (next h row), count_next h row) in
           subst IsLegal same (more.legal (legal_next h row legal count has.0) few);
     }
 
@@ -160,7 +161,7 @@ same_key log rows p q same =
       other = same.other;
     }
 
-pub too_many_contexts : (log : List Entry) (rows new : List Row) (count : ℕ) → PlacesRows (known_of log) rows new → count ≡ length new → 32768 < count → HasTooManyContexts log rows count
+pub too_many_contexts : (log : List Entry) (rows new : List Row) (count : ℕ) → PlacesRows (known_of log) rows new → count ≡ length new → context_limit < count → HasTooManyContexts log rows count
 too_many_contexts log rows new count placed is many =
     let all = enroll_rows log rows new placed in
     record {

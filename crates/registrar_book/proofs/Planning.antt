@@ -11,6 +11,7 @@ use Rattle.journal_text.specs.declared.settings.Settings.{Settings}
 use Rattle.journal_text.specs.declared.entry.Entry.{Entry}
 use Rattle.journal_text.specs.declared.entry.Entry.TheVariants.{Settings as SettingsEntry, Enroll}
 use Rattle.journal_text.specs.Text.{IsSpellable}
+use Rattle.join_history.specs.Limits.{context_limit, entry_limit}
 use Rattle.join_history.specs.Times.{moment}
 use Rattle.join_history.specs.Contexts.{context_count}
 use Rattle.join_history.specs.Leases.{current_settings}
@@ -75,9 +76,9 @@ known_tail _ = inr refl
 known_same : (h : List Entry) (e : Entry) → known_of (e ∷ []) ≡ [] → known_of (h ++ e ∷ []) ≡ known_of h
 known_same h e none = known_of-append h (e ∷ []) ∙ ap (λ (l : List Row). known_of h ++ l) none ∙ append-nil (known_of h)
 
-pub few_contexts : (h : List Entry) → IsLegal h → length (known_of h) ≤ 32768
+pub few_contexts : (h : List Entry) → IsLegal h → length (known_of h) ≤ context_limit
 few_contexts =
-    legal_induction (λ h. length (known_of h) ≤ 32768) (omega arith) (λ h e legal may few.
+    legal_induction (λ h. length (known_of h) ≤ context_limit) (omega arith) (λ h e legal may few.
     elim (known_tail e) [
       | inl is ↦
           let may' = subst (MayFollow h) is.3 may in
@@ -158,7 +159,7 @@ pub record Opens (log : List Entry) (settings : Settings) (rows : List Row) (now
   pub known_is : known_of (log ++ entries) ≡ known
 
 pub opens : (log : List Entry) (settings : Settings) (rows : List Row) (now : Option ℕ) (first : Option Entry) (known : List Row) (entries : List Entry) → IsLegal log → IsInRange settings
-    → MatchOption first (current_settings log ≡ Some settings) (IsNewSettings log settings now) → PlacesRows (known_of log) rows known → length known ≤ 32768
+    → MatchOption first (current_settings log ≡ Some settings) (IsNewSettings log settings now) → PlacesRows (known_of log) rows known → length known ≤ context_limit
     → entries ≡ first_entries first ++ enrolls (length (known_of log)) (drop (length (known_of log)) known) → Opens log settings rows now entries known
 opens log settings rows now first known entries legal range new placed few is =
     let starts = starts_with log settings now first legal range new in
@@ -209,23 +210,23 @@ length_first : (first : Option Entry) → length (first_entries first) ≤ 1
 length_first None = omega arith
 length_first (Some e) = omega arith
 
-pub few_entries : (first : Option Entry) (context place : ℕ) (known : List Row) (entries : List Entry) → entries ≡ first_entries first ++ enrolls context (drop place known) → length known ≤ 32768
+pub few_entries : (first : Option Entry) (context place : ℕ) (known : List Row) (entries : List Entry) → entries ≡ first_entries first ++ enrolls context (drop place known) → length known ≤ context_limit
     → length entries ≤ 32769
 few_entries first context place known entries is few =
     omega (arith, few, ap length is, length-append (first_entries first) (enrolls context (drop place known)), length_first first, length_enrolls context (drop place known), length-drop place known)
 
 -- contexts and room
-pub contexts_left : (log entries : List Entry) (left : ℕ) → IsLegal (log ++ entries) → left + context_count log ≡ 32768 → context_count entries ≤ left
+pub contexts_left : (log entries : List Entry) (left : ℕ) → IsLegal (log ++ entries) → left + context_count log ≡ context_limit → context_count entries ≤ left
 contexts_left log entries left legal is =
     omega (arith, is, few_contexts (log ++ entries) legal, ap length (known_of-append log entries), length-append (known_of log) (known_of entries), known_count log, known_count entries)
 
 module _ (log : List Entry) (settings : Settings) (rows : List Row) (now : Option ℕ) (first : Option Entry) (known : List Row) (entries : List Entry) (legal : IsLegal log) (range : IsInRange settings)
-    (new : MatchOption first (current_settings log ≡ Some settings) (IsNewSettings log settings now)) (placed : PlacesRows (known_of log) rows known) (few : length known ≤ 32768)
+    (new : MatchOption first (current_settings log ≡ Some settings) (IsNewSettings log settings now)) (placed : PlacesRows (known_of log) rows known) (few : length known ≤ context_limit)
     (is : entries ≡ first_entries first ++ enrolls (length (known_of log)) (drop (length (known_of log)) known)) where
   all : Opens log settings rows now entries known
   all = opens log settings rows now first known entries legal range new placed few is
 
-  pub plan_of : (contexts : List ℕ) → AllZip (IsRowAt known) rows contexts → length log + length entries ≤ 262144 → IsPlan log settings rows now entries contexts
+  pub plan_of : (contexts : List ℕ) → AllZip (IsRowAt known) rows contexts → length log + length entries ≤ entry_limit → IsPlan log settings rows now entries contexts
   plan_of contexts places most = record {
     opened = all.opened;
     legal = all.legal;
@@ -236,5 +237,5 @@ module _ (log : List Entry) (settings : Settings) (rows : List Row) (now : Optio
     kinds = subst (AllByRecursion IsOpening) (sym is) (all_open log settings now first (length (known_of log)) (drop (length (known_of log)) known) new);
   }
 
-  pub too_many : (count : ℕ) → count ≡ length log + length entries → 262144 < count → HasTooManyEntries log settings rows now count
+  pub too_many : (count : ℕ) → count ≡ length log + length entries → entry_limit < count → HasTooManyEntries log settings rows now count
   too_many count sum many = record { history = log ++ entries; opened = all.opened; legal = all.legal; is = sum ∙ sym (length-append log entries); many = many }

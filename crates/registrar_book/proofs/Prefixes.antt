@@ -6,7 +6,7 @@ use Rattle.std.specs.Result.{IsOk}
 use Rattle.edge_traits.specs.Disk.{Areas, bytes_of, LeavesOnly}
 use Rattle.edge_traits.specs.declared.names.Area.{Area}
 use Rattle.edge_traits.specs.declared.names.Area.TheVariants.{Left}
-use Rattle.edge_traits.proofs.Moments.{started, joined}
+use Rattle.edge_traits.proofs.Moments.{started, joined, LeavesOnly-map}
 use Rattle.journal_text.specs.declared.entry.Entry.{Entry}
 use Rattle.journal_text.specs.declared.entry.Entry.TheVariants.{Settings, Enroll, Grant, Refuse, Block, Roll, Given, Stale, Switch, Release}
 use Rattle.journal_text.specs.Numbers.{number_text}
@@ -18,7 +18,6 @@ use Rattle.journal_store.specs.Area.{first_header, IsBatch, IsLog, body_text, ta
 use Rattle.journal_store.specs.Store.{disk_of, area_of, end_of, pending_of, ImageHas, HasEither}
 use Rattle.journal_store.proofs.Areas.{either}
 use Rattle.journal_store.proofs.Bodies.{entry_some}
-use Rattle.journal_store.proofs.Steps.{LeavesOnly-map}
 use Rattle.registrar_book.specs.Journals.{HasLog, IsHeld, EndsPending, HasPrefix, size_limit}
 
 -- ---- a batch
@@ -120,7 +119,7 @@ module _ {D : Type 0} (may_leave : D → Areas → Type 0) where
     pub looked : (journal : Journal D) (new : D) (log : List Entry) (durable : ℕ) → IsHeld may_leave journal log durable
         → LeavesOnly moment left_since (disk_of journal) new (may_leave (disk_of journal)) → LeavesOnly moment left_since (disk_of journal) new (HasPrefix durable log)
     looked journal new log durable held leaves =
-        LeavesOnly-map moment left_since may_leave (disk_of journal) new (may_leave (disk_of journal)) (HasPrefix durable log) leaves (held_prefix journal log durable held)
+        LeavesOnly-map moment left_since (disk_of journal) new (may_leave (disk_of journal)) (HasPrefix durable log) leaves (held_prefix journal log durable held)
 
     -- no call at all
     pub stayed : (journal : Journal D) (log : List Entry) (durable : ℕ) → IsHeld may_leave journal log durable
@@ -133,7 +132,7 @@ module _ {D : Type 0} (may_leave : D → Areas → Type 0) where
     pub wrote : (old new : D) (area : Area) (end : ℕ) (prefix batch : List Entry) → area ≡ Left
         → LeavesOnly moment left_since old new (HasEither (may_leave old) area first_header end prefix batch) → LeavesOnly moment left_since old new (HasPrefix (length prefix) (prefix ++ batch))
     wrote old new area end prefix batch left leaves =
-        LeavesOnly-map moment left_since may_leave old new (HasEither (may_leave old) area first_header end prefix batch) (HasPrefix (length prefix) (prefix ++ batch)) leaves
+        LeavesOnly-map moment left_since old new (HasEither (may_leave old) area first_header end prefix batch) (HasPrefix (length prefix) (prefix ++ batch)) leaves
         (λ image. either_prefix (may_leave old) area end prefix batch image left)
 
     -- the same, after a call that leaves no more
@@ -155,5 +154,5 @@ module _ {D : Type 0} (may_leave : D → Areas → Type 0) where
         let P : Areas → Type 0 = HasPrefix durable longer in
         let Q : Areas → Type 0 = HasPrefix between longer in
         joined moment left_since old mid new P Q
-        (LeavesOnly-map moment left_since may_leave old mid (HasPrefix durable log) P first (λ image has. longer_prefix durable log added longer image is has)) second
+        (LeavesOnly-map moment left_since old mid (HasPrefix durable log) P first (λ image has. longer_prefix durable log added longer image is has)) second
         (λ image has. record { count = has.count; least = omega (arith, has.least, le); most = has.most; has = has.has })

@@ -9,6 +9,7 @@ use Rattle.journal_text.specs.declared.settings.Settings.{Settings}
 use Rattle.journal_text.specs.declared.entry.Entry.{Entry}
 use Rattle.join_history.specs.declared.due.Due.TheVariants as due
 use Rattle.join_history.specs.declared.due.Want.{Want}
+use Rattle.join_history.specs.Limits.{entry_limit}
 use Rattle.join_history.specs.Due.{IsDue}
 use Rattle.join_history.specs.Legal.{IsLegal}
 use Rattle.join_history.specs.Opening.{IsOpened}
@@ -22,10 +23,6 @@ use Rattle.registrar_book.specs.declared.answers.Decided.TheVariants.{Made, Agai
 use Rattle.registrar_book.specs.declared.book.Book.{Book}
 use Rattle.registrar_book.specs.Journals.{IsHeld, HasPrefix}
 use Rattle.registrar_book.specs.Opening.{Row, HasContext, IsLogOf, opening_time}
-
--- how many entries a log may have
-abbrev pub entry_limit : ℕ
-entry_limit = 262144
 
 abbrev pub log_of : {D : Type 0} {ghosts : Ghosts D} → Book D ghosts → List Entry
 log_of book = book.desk.log.items

@@ -6,6 +6,7 @@ use Rattle.journal_text.specs.declared.settings.Settings.{Settings}
 use Rattle.journal_text.specs.declared.entry.Entry.{Entry}
 use Rattle.journal_text.specs.declared.entry.Entry.TheVariants.{Settings as SettingsEntry, Enroll}
 use Rattle.journal_text.specs.Text.{IsSpellable}
+use Rattle.join_history.specs.Limits.{entry_limit}
 use Rattle.join_history.specs.Leases.{current_settings}
 use Rattle.join_history.specs.Legal.{IsLegal}
 use Rattle.join_history.specs.Opening.{IsOpened}
@@ -86,7 +87,7 @@ pub record IsPlan (log : List Entry) (settings : Settings) (rows : List Row) (no
   pub opened : IsOpened log (opening_time log now) settings rows (log ++ entries)
   pub legal : IsLegal (log ++ entries)
   pub each : AllZip (HasContext (log ++ entries)) rows contexts
-  pub most : length log + length entries ≤ 262144
+  pub most : length log + length entries ≤ entry_limit
   pub small : AreSmall entries
   pub spellable : AllByRecursion IsSpellable entries
   pub kinds : AllByRecursion IsOpening entries

@@ -6,6 +6,7 @@ use Rattle.edge_traits.specs.Faults.{Rose}
 use Rattle.journal_text.specs.declared.settings.Settings.{Settings}
 use Rattle.journal_text.specs.declared.entry.Entry.{Entry}
 use Rattle.journal_text.specs.declared.entry.Entry.TheVariants.{Enroll}
+use Rattle.join_history.specs.Limits.{context_limit, entry_limit}
 use Rattle.join_history.specs.Times.{last_time, moment}
 use Rattle.join_history.specs.Contexts.{context_count}
 use Rattle.join_history.specs.Legal.{IsLegal, MayFollow}
@@ -60,7 +61,7 @@ pub record HasTooManyContexts (log : List Entry) (rows : List Row) (count : ℕ)
   pub history : List Entry
   pub enrolled : EnrollsRows log rows history
   pub is : count ≡ context_count history
-  pub many : 32768 < count
+  pub many : context_limit < count
 
 -- with the entries of opening there are `count` entries, which are too many
 pub record HasTooManyEntries (log : List Entry) (settings : Settings) (rows : List Row) (now : Option ℕ) (count : ℕ) : Type 0 where
@@ -68,7 +69,7 @@ pub record HasTooManyEntries (log : List Entry) (settings : Settings) (rows : Li
   pub opened : IsOpened log (opening_time log now) settings rows history
   pub legal : IsLegal history
   pub is : count ≡ length history
-  pub many : 262144 < count
+  pub many : entry_limit < count
 
 -- why nothing can be opened after this log: it isn't legal, or by the rows and settings, or memory was short
 abbrev pub OpenCause : List Entry → Settings → List Row → Option ℕ → OpenFault → Type 0

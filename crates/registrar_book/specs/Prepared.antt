@@ -2,6 +2,7 @@
 use Rattle.std.specs.Prelude.{◌≡◌, ◌+◌, ℕ, List, Option}
 use Rattle.journal_text.specs.declared.settings.Settings.{Settings}
 use Rattle.journal_text.specs.declared.entry.Entry.{Entry}
+use Rattle.join_history.specs.Limits.{context_limit}
 use Rattle.join_history.specs.Contexts.{context_count}
 use Rattle.registrar_state.specs.State.{StandsFor, spare_room}
 use Rattle.registrar_book.specs.declared.opening.Prepared.{Prepared}
@@ -13,4 +14,4 @@ pub record IsPrepared (log : List Entry) (settings : Settings) (rows : List Row)
   pub plan : IsPlan log settings rows now prepared.plan.entries.items prepared.plan.contexts.items
   pub log_is : prepared.desk.log.items ≡ log
   pub stands : StandsFor prepared.desk.state log
-  pub contexts_left : (spare_room prepared.desk.state).contexts + context_count log ≡ 32768
+  pub contexts_left : (spare_room prepared.desk.state).contexts + context_count log ≡ context_limit

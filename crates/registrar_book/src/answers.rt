@@ -71,10 +71,10 @@ impl<T: Drop> From<AllocFailed<T>> for OpenFault {
     }
 }
 
-impl From<registrar_state::NoMemory> for OpenFault {
+impl From<edge_traits::NoMemory> for OpenFault {
     ghost from_gives = { λ _ e. e ≡ NoMemory };
 
-    fn from(_: registrar_state::NoMemory) -> Self {
+    fn from(_: edge_traits::NoMemory) -> Self {
         OpenFault::NoMemory
     }
 }

@@ -4,11 +4,12 @@ ghost use Rattle.journal_store.specs.declared.fault.StoreFault.TheVariants as st
 ghost use Rattle.journal_store.specs.Store.{pending_of, reach_of, end_limit};
 ghost use Rattle.registrar_book.specs.Opening.{IsStoreFault};
 
-use crate::desk::{Desk, ENTRY_LIMIT};
+use crate::desk::Desk;
 use crate::opening::{Prepared, prepare};
 use crate::press::Press;
 use crate::{Closed, Decided, OpenFault};
 use edge_traits::Disk;
+use join_history::ENTRY_LIMIT;
 use journal_store::{Journal, StoreFault};
 use journal_text::Entry;
 use registrar_state::{Due, Opening, RegState, Want};
@@ -42,6 +43,7 @@ impl<D: Disk> Book<D> {
     ghost use Rattle.edge_traits.specs.Disk.{LeavesOnly};
     ghost use Rattle.edge_traits.specs.Runs.{IsSameDisk, IsUntouched};
     ghost use Rattle.journal_text.specs.declared.settings.Settings.{Settings};
+    ghost use Rattle.join_history.specs.Limits.{number_end};
     ghost use Rattle.join_history.specs.Legal.{IsInRange};
     ghost use Rattle.journal_text.specs.declared.entry.Entry.{Entry};
     ghost use Rattle.join_history.specs.Due.{IsWish};
@@ -115,7 +117,7 @@ impl<D: Disk> Book<D> {
         requires kept { IsTrue (D.tells (book_disk self.old)) → IsKept D.may_leave self.old }
         requires context { IsEnrolled (state_of self.old) context }
         requires settings { HasSettings (state_of self.old) }
-        requires number { number < 2 ^ 40 }
+        requires number { number < number_end }
         requires want { IsWish want }
         ensures adds { (g : List Entry) → StandsFor (state_of self.old) g → Adds self.old self.new g now context number want result }
         ensures sure { IsDurableUnlessUnsure result (durable_of self.new) (length (log_of self.new)) }

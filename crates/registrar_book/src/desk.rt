@@ -1,12 +1,10 @@
 //! What is decided: the state and its log, and how much of that is durable.
 ghost use Rattle.std.specs.Prelude.{◌≤◌, ◌+◌, vec_len, vec_capacity};
+ghost use Rattle.join_history.specs.Limits.{entry_limit};
 ghost use Rattle.registrar_state.specs.State.{spare_room};
 
 use journal_text::Entry;
 use registrar_state::RegState;
-
-/// How many entries a log may have.
-pub const ENTRY_LIMIT: u32 = 262_144;
 
 #[derive(Drop)]
 pub struct Desk {
@@ -14,9 +12,9 @@ pub struct Desk {
     pub log: Vec<Entry>,
     /// How many entries of the log are durable.
     pub durable: u32,
-    ghost room: { 262144 ≤ vec_len log + (spare_room state).entries },
-    ghost memory: { 262144 ≤ vec_capacity log },
-    ghost most: { vec_len log ≤ 262144 },
+    ghost room: { entry_limit ≤ vec_len log + (spare_room state).entries },
+    ghost memory: { entry_limit ≤ vec_capacity log },
+    ghost most: { vec_len log ≤ entry_limit },
 }
 
 impl Desk {
@@ -40,7 +38,7 @@ impl Desk {
     pub fn add(&mut self, entry: &Entry)
         requires may_follow { CanFollow self.old.state entry.now }
         requires room { HasRoomFor (spare_room self.old.state) entry.now }
-        requires space { length self.old.log.items < 262144 }
+        requires space { length self.old.log.items < entry_limit }
         ensures stands { (h : List Entry) → StandsFor self.old.state h → StandsFor self.new.state (h ++ entry.now ∷ []) }
         ensures log { self.new.log.items ≡ self.old.log.items ++ entry.now ∷ [] }
         ensures durable { self.new.durable ≡ self.old.durable }
@@ -55,7 +53,7 @@ impl Desk {
         requires may_follow { (h : List Entry) × StandsFor self.old.state h × IsLegal (h ++ entries.now) }
         requires kinds { AllByRecursion IsOpening entries.now }
         requires contexts { context_count entries.now ≤ (spare_room self.old.state).contexts }
-        requires space { length self.old.log.items + length entries.now ≤ 262144 }
+        requires space { length self.old.log.items + length entries.now ≤ entry_limit }
         ensures stands { (h : List Entry) → StandsFor self.old.state h → StandsFor self.new.state (h ++ entries.now) }
         ensures log { self.new.log.items ≡ self.old.log.items ++ entries.now }
         ensures durable { self.new.durable ≡ length self.new.log.items }

@@ -2,6 +2,7 @@
 ghost use Rattle.std.specs.Prelude.{◌≡◌, ◌≤◌, ◌<◌, ◌+◌, ◌++◌, ◌^◌, ◌-◌, ◌↔◌, Option, Some, List, IfOk, IfErr, IsTrue, MatchOption, length, drop, vec_capacity};
 ghost use Rattle.journal_text.specs.declared.entry.Entry.{Entry};
 ghost use Rattle.join_history.specs.Leases.{current_settings};
+ghost use Rattle.join_history.specs.Limits.{context_limit};
 ghost use Rattle.join_history.specs.Legal.{IsLegal, IsInRange};
 ghost use Rattle.registrar_state.specs.State.{StandsFor};
 ghost use Rattle.registrar_book.specs.Opening.{OpenCause};
@@ -9,10 +10,11 @@ ghost use Rattle.registrar_book.specs.Known.{enrolls, first_entries, IsNewSettin
 ghost use Rattle.registrar_book.specs.Prepared.{IsPrepared};
 
 use crate::OpenFault;
-use crate::desk::{Desk, ENTRY_LIMIT};
+use crate::desk::Desk;
 use crate::known::Row;
-use crate::replay::{CONTEXT_LIMIT, replay};
+use crate::replay::replay;
 use crate::rows::{known_contexts, place_rows};
+use join_history::{CONTEXT_LIMIT, ENTRY_LIMIT};
 use journal_text::{Entry, Settings};
 use registrar_state::{Opening, RegState};
 use std::alloc::{AllocError, Global};
@@ -55,7 +57,7 @@ fn opening_entries(
     first: usize,
 ) -> Result<Vec<Entry>, AllocError>
     requires first { first ≤ length known.now }
-    requires few { length known.now ≤ 32768 }
+    requires few { length known.now ≤ context_limit }
     ensures entries { IfOk result (λ entries. entries.items ≡ first_entries settings ++ enrolls first (drop first known.now)) }
 {
     let mut entries = Vec::new(alloc);

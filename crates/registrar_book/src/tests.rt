@@ -97,17 +97,6 @@ fn enroll_text(alloc: Global, id: PledgeId, check: &[u8; 32]) -> Result<Vec<u8>,
     Ok(text)
 }
 
-fn disk_of(alloc: Global, left: &[u8], failing: &[u64], calls: usize) -> Result<MemDisk, Fail> {
-    Ok(MemDisk::new(alloc, left, b"\x00", failing, calls, 4096)?)
-}
-
-fn content(alloc: Global, disk: &mut MemDisk, area: Area) -> Result<Vec<u8>, Fail> {
-    let len = disk.len(area)?;
-    let mut bytes = vec![in alloc; 0; len as usize]?;
-    disk.read_at(area, 0, &mut bytes)?;
-    Ok(bytes)
-}
-
 /// The log of the disk's journal.
 fn log_on(alloc: Global, disk: MemDisk) -> Result<Vec<Entry>, Fail> {
     match Journal::start(alloc, disk) {
@@ -171,13 +160,16 @@ fn join(book: &mut Book<MemDisk>, number: u32, now: u64) -> Decided
 /// Why a disk with this left area isn't opened. Its areas stay.
 fn fault_of(rt: &impl Abort, alloc: Global, left: &[u8], rows: &[Row]) -> Result<OpenFault, Fail> {
     let opening = opening_of(rt, alloc, rows)?;
-    match Book::start(alloc, disk_of(alloc, left, &[], 16)?, &opening, None) {
+    match Book::start(
+        alloc,
+        MemDisk::new(alloc, left, b"\x00", &[], 16, 4096)?,
+        &opening,
+        None,
+    ) {
         Ok(_opened) => Err("opened")?,
-        Err((mut disk, fault)) => {
-            let found = content(alloc, &mut disk, Area::Left)?;
-            let other = content(alloc, &mut disk, Area::Right)?;
-            assert!(rt; found.as_slice() == left, "the left area");
-            assert_eq!(rt; other.as_slice(), [0].as_slice());
+        Err((disk, fault)) => {
+            assert!(rt; disk.content(Area::Left) == left, "the left area");
+            assert_eq!(rt; disk.content(Area::Right), [0].as_slice());
             Ok(fault)
         }
     }
@@ -219,7 +211,7 @@ fn what_is_there_is_not_added_again_and_answers_stay(rt: HostRuntime) -> Result<
 
 /// A disk of an empty journal. Opening it makes seven calls: three to read, and four to write the settings and a row.
 fn empty_disk(alloc: Global, failing: &[u64]) -> Result<MemDisk, Fail> {
-    disk_of(alloc, &area_of(alloc, &[])?, failing, 64)
+    Ok(MemDisk::new(alloc, &area_of(alloc, &[])?, b"\x00", failing, 64, 4096)?)
 }
 
 #[test]
@@ -324,7 +316,7 @@ fn opening_adds_nothing_past_262144_entries(rt: HostRuntime) -> Result<(), Fail>
 #[test]
 fn a_full_log_takes_no_decision(rt: HostRuntime) -> Result<(), Fail> {
     let alloc = rt.alloc();
-    let disk = disk_of(alloc, &full_area(alloc, 127)?, &[], 16)?;
+    let disk = MemDisk::new(alloc, &full_area(alloc, 127)?, b"\x00", &[], 16, 4096)?;
     let (mut book, contexts) = opened(&rt, alloc, disk, &[row(0xa1)], None)?;
     assert_eq!(rt; contexts.as_slice(), [0].as_slice());
     assert_eq!(rt; join(&mut book, 0, 1), Decided::Full(262_144));
@@ -354,7 +346,7 @@ fn opening_writes_32_entries_at_a_time(rt: HostRuntime) -> Result<(), Fail> {
         rows.push(row(number))?;
         expected.push(enroll(number, row(number)))?;
     }
-    let disk = disk_of(alloc, &area_of(alloc, &[])?, &[], 11)?;
+    let disk = MemDisk::new(alloc, &area_of(alloc, &[])?, b"\x00", &[], 11, 4096)?;
     let (book, contexts) = opened(&rt, alloc, disk, &rows, None)?;
     assert_eq!(rt; contexts.len(), 40);
     let Closed { mut disk, log, .. } = book.close();
@@ -397,7 +389,7 @@ fn opening_adds_settings_at_the_moment_of_the_clock(rt: HostRuntime) -> Result<(
         (&used, Some(u64::MAX), 1_099_511_627_775),
     ];
     for (left, now, time) in cases {
-        let disk = disk_of(alloc, left, &[], 16)?;
+        let disk = MemDisk::new(alloc, left, b"\x00", &[], 16, 4096)?;
         let log = opened(&rt, alloc, disk, &[row(0xa1)], now)?.0.close().log;
         let added = [settings_at(time), enroll(0, row(0xa1))];
         assert!(rt; log.ends_with(&added), "at {time}");

@@ -7,7 +7,7 @@ mod absent;
 
 use absent::NoInventory;
 use edge_real::{FileDisk, OpenError, StdSink, StdSource};
-use registrar_tool::{Status, run};
+use registrar_tool::{Status, is_command, run};
 use std::process::ExitCode;
 use std::{env, io};
 
@@ -45,8 +45,11 @@ fn tell(rt: &HostRuntime, text: &str) -> Status {
     }
 }
 
-/// Runs the words over the standard streams and the journal's two files.
+/// Runs the words over the standard streams and the journal's two files, which are opened for a command alone.
 fn run_words(rt: &HostRuntime, words: &[String]) -> Status {
+    if !is_command(words) {
+        return Status::Usage;
+    }
     let disk = match FileDisk::at(*rt, JOURNAL) {
         Ok(disk) => disk,
         Err(OpenError::Failed) => return Status::DiskFault(1),

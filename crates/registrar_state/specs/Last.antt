@@ -8,6 +8,7 @@ use Rattle.journal_text.specs.Codes.{code_of}
 use Rattle.journal_text.specs.declared.refusal.Refusal.{Refusal}
 use Rattle.journal_text.specs.declared.entry.Entry.{Entry}
 use Rattle.journal_text.specs.declared.entry.Entry.TheVariants as entry
+use Rattle.join_history.specs.Limits.{time_end, hours_limit}
 use Rattle.join_history.specs.Times.{time_of}
 use Rattle.join_history.specs.Decisions.{IsDecision, IsLastDecision}
 use Rattle.join_history.specs.Legal.{IsLegal}
@@ -31,7 +32,7 @@ IsLastAnswer h c (Refuse code) =
 
 -- of a Configuration that has P and that a Grant of this time brought, this is the lease
 abbrev pub IsLeaseOf : (Configuration → Type 0) → ℕ → Last → Type 0
-IsLeaseOf P time last = (keys : Phase) (s : Settings) (a : ℕ) → P (configuration keys s a) → s.hours ≤ 65535 → time < 2 ^ 40
+IsLeaseOf P time last = (keys : Phase) (s : Settings) (a : ℕ) → P (configuration keys s a) → s.hours ≤ hours_limit → time < time_end
     → last ≡ Grant a (lease_end time s.hours)
 
 -- the lease of the Configuration that comes after the marker of a payload

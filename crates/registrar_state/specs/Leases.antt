@@ -5,6 +5,7 @@ use Rattle.address_leases.specs.declared.grant.Grant.{Grant as Lease}
 use Rattle.address_leases.specs.Lent as lent
 use Rattle.journal_text.specs.declared.entry.Entry.{Entry}
 use Rattle.journal_text.specs.declared.entry.Entry.TheVariants.{Grant}
+use Rattle.join_history.specs.Limits.{grace}
 use Rattle.join_history.specs.Contexts.{pledge_of}
 use Rattle.join_history.specs.Leases.{IsInEffect, IsLive}
 
@@ -20,5 +21,5 @@ pub record IsLease (h : List Entry) (g : Lease) : Type 0 where
 -- pledge is live exactly where it is live in the history.
 pub record AreLeases (h : List Entry) (l : lent.Lent) : Type 0 where
   pub each : (g : Lease) → Contains l.grants g → IsLease h g
-  pub every : (g : Lease) → IsLease h g → l.passed < g.until + 3600 → Contains l.grants g
+  pub every : (g : Lease) → IsLease h g → l.passed < g.until + grace → Contains l.grants g
   pub live : (t a : ℕ) (p : PledgeId) → l.passed ≤ t → lent.IsLive l t p a ↔ IsLive h t p a

@@ -10,6 +10,7 @@ use Rattle.journal_text.specs.declared.summary.SumRequest.{SumRequest}
 use Rattle.journal_text.specs.declared.summary.SumContext.{SumContext}
 use Rattle.journal_text.specs.declared.summary.SumNode.{SumNode}
 use Rattle.journal_text.specs.declared.entry.Entry.{Entry}
+use Rattle.join_history.specs.Limits.{context_limit}
 use Rattle.join_history.specs.Leases.{IsGrantTo}
 use Rattle.join_history.specs.Legal.{IsLegal}
 use Rattle.join_history.specs.Summary.{Summary, Ascends, IsNodeBefore, IsSumContext, IsSumNode}
@@ -26,7 +27,7 @@ IsReadableRequest (Some r) = AreParts r.greatest r.window
 
 -- the windows are such as requests leave, and no two contexts have one check
 pub record AreReadable (contexts : List SumContext) : Type 0 where
-  pub few : length contexts ≤ 32768
+  pub few : length contexts ≤ context_limit
   pub windows : (c : ℕ) (x : SumContext) → c < length contexts → IsReadableRequest (get_or contexts c x).last
   pub distinct : (c d : ℕ) (x : SumContext) → c < d → d < length contexts → (get_or contexts c x).check ≡ (get_or contexts d x).check → ⊥
 

@@ -6,6 +6,7 @@ use Rattle.journal_text.specs.declared.summary.SumContext.{SumContext}
 use Rattle.journal_text.specs.declared.summary.SumGrant.{SumGrant}
 use Rattle.journal_text.specs.declared.summary.SumNode.{SumNode}
 use Rattle.journal_text.specs.declared.entry.Entry.{Entry}
+use Rattle.join_history.specs.Limits.{grace}
 use Rattle.join_history.specs.Summary.{IsSumContext}
 use Rattle.rekey_core.specs.Held.{Held, epochs_of}
 use Rattle.registrar_state.specs.declared.contexts.Row.{Row}
@@ -24,7 +25,7 @@ lease_of x = record { until = x.until; address = x.address; id = x.id }
 
 -- the lease is kept, and holds its address at this time
 abbrev pub IsKept : List Lease → ℕ → SumGrant → Type 0
-IsKept leases time x = Contains leases (lease_of x) × (time < x.until + 3600)
+IsKept leases time x = Contains leases (lease_of x) × (time < x.until + grace)
 
 -- the lease as the summary has it
 unfoldable pub grant_of : HeldLease → SumGrant

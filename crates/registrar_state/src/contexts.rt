@@ -2,6 +2,7 @@
 ghost use Rattle.std.specs.Prelude.{◌≡◌, ◌≢◌, ℕ, ◌+◌, ◌<◌, ◌≤◌, List, [], ◌∷◌, ◌++◌, length, get_or, Option, Some, None, IfOk, MatchOption, vec_len, vec_capacity, bytes_eq, false};
 ghost use Rattle.std.specs.Map.{lookup};
 ghost use Rattle.indexmap.specs.IndexMap.{spare as map_spare};
+ghost use Rattle.join_history.specs.Limits.{context_limit};
 ghost use Rattle.replay_window.specs.Parts.{StandsFor};
 ghost use Rattle.replay_window.specs.Numbers.{IsJudged};
 ghost use Rattle.replay_window.specs.declared.judged.Judged.TheVariants.{Fresh};
@@ -105,7 +106,7 @@ impl Contexts {
     pub(crate) fn enroll(&mut self, id: PledgeId, check: [u8; 32])
         requires room { 0 < self.old.room }
         requires new_check { IsNewCheck self.old.rows check }
-        requires few { length self.old.rows < 32768 }
+        requires few { length self.old.rows < context_limit }
         ensures rows { self.new.rows ≡ self.old.rows ++ (record { id = id; check = check; end = 0; window = None; last = None }) ∷ [] }
         ensures room { self.new.room + 1 ≡ self.old.room }
         ensures memory { self.new.reserved ≡ self.old.reserved }
@@ -123,7 +124,7 @@ impl Contexts {
     pub(crate) fn add(&mut self, row: Row)
         requires room { 0 < self.old.room }
         requires new_check { IsNewCheck self.old.rows row.check }
-        requires few { length self.old.rows < 32768 }
+        requires few { length self.old.rows < context_limit }
         ensures rows { self.new.rows ≡ self.old.rows ++ row ∷ [] }
         ensures room { self.new.room + 1 ≡ self.old.room }
         ensures memory { self.new.reserved ≡ self.old.reserved }

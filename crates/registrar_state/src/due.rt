@@ -1,6 +1,7 @@
 //! What a request is due.
 ghost use Rattle.std.specs.Prelude.{◌≡◌, ◌<◌, ◌≤◌, ◌^◌, ◌+◌, ℕ, List, Some, MatchOption};
 ghost use Rattle.journal_text.specs.declared.entry.Entry.{Entry};
+ghost use Rattle.join_history.specs.Limits.{number_end, time_end, pool_end};
 ghost use Rattle.join_history.specs.Contexts.{pledge_of};
 ghost use Rattle.join_history.specs.Leases.{current_settings, IsDueAddress, HasNoAddress};
 ghost use Rattle.join_history.specs.Due.{IsRepeat, IsNoRepeat, IsWish, IsDueEntry, IsDue, IsAddable};
@@ -12,12 +13,9 @@ use crate::contexts::Row;
 use crate::legal::lease_end;
 use crate::state::RegState;
 use edge_traits::PledgeId;
-use join_history::{Due, Quiet, Want};
+use join_history::{Due, Quiet, REPEAT_SPAN, Want};
 use journal_text::{Entry, Refusal, Settings};
 use replay_window::Judged;
-
-/// The seconds for which a repeat of the last request gets its answer again.
-pub(crate) const REPEAT_SPAN: u64 = 600;
 
 impl Row {
     /// When the last request of the context was decided, where it has this number.
@@ -48,7 +46,7 @@ impl RegState {
     /// The live address of a pledge, or else the least address of the pool that no other pledge holds.
     pub(crate) fn due_address(&self, settings: &Settings, at: u64, pledge: PledgeId) -> Option<u16>
         requires current { (h : List Entry) → StandsFor self.now h → current_settings h ≡ Some settings.now }
-        requires pool { (1 ≤ settings.now.first) × (settings.now.first + settings.now.count ≤ 65534) }
+        requires pool { (1 ≤ settings.now.first) × (settings.now.first + settings.now.count ≤ pool_end) }
         requires moment { IsNow self.now at }
         ensures { (h : List Entry) → StandsFor self.now h → MatchOption result (HasNoAddress h at pledge) (IsDueAddress h at pledge) }
     {
@@ -57,7 +55,7 @@ impl RegState {
 
     /// The entry that a fresh join gets.
     fn join_entry(&self, context: u32, number: u64, at: u64, pledge: PledgeId) -> Entry
-        requires fits { at < 2 ^ 40 }
+        requires fits { at < time_end }
         requires moment { IsNow self.now at }
         requires pledge { (h : List Entry) → StandsFor self.now h → pledge_of h context ≡ Some pledge }
         requires settings { HasSettings self.now }
@@ -83,7 +81,7 @@ impl RegState {
 
     /// The entry that a fresh request gets.
     fn due_entry(&self, context: u32, number: u64, want: Want, at: u64, pledge: PledgeId) -> Entry
-        requires fits { at < 2 ^ 40 }
+        requires fits { at < time_end }
         requires moment { IsNow self.now at }
         requires pledge { (h : List Entry) → StandsFor self.now h → pledge_of h context ≡ Some pledge }
         requires settings { HasSettings self.now }
@@ -104,7 +102,7 @@ impl RegState {
     pub fn due(&self, context: u32, number: u64, want: Want, now: u64) -> Due
         requires context { IsEnrolled self.now context }
         requires settings { HasSettings self.now }
-        requires number { number < 2 ^ 40 }
+        requires number { number < number_end }
         requires want { IsWish want }
         ensures due { (h : List Entry) → StandsFor self.now h → IsDue h now context number want result }
         ensures may_follow { (h : List Entry) → StandsFor self.now h → IsAddable h result }
@@ -116,7 +114,7 @@ impl RegState {
     fn due_of(&self, row: &Row, context: u32, number: u64, want: Want, now: u64) -> Due
         requires row { (h : List Entry) → StandsFor self.now h → IsRow h context row.now }
         requires settings { HasSettings self.now }
-        requires number { number < 2 ^ 40 }
+        requires number { number < number_end }
         requires want { IsWish want }
         ensures due { (h : List Entry) → StandsFor self.now h → IsDue h now context number want result }
         ensures may_follow { (h : List Entry) → StandsFor self.now h → IsAddable h result }

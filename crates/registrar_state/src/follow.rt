@@ -3,6 +3,7 @@ ghost use Rattle.std.specs.Prelude.{◌≡◌, ◌↔◌, ◌<◌, ◌≤◌, �
 ghost use Rattle.address_leases.specs.declared.grant.Grant.{Grant as Lease};
 ghost use Rattle.journal_text.specs.declared.entry.Entry.{Entry as AnEntry};
 ghost use Rattle.journal_text.specs.declared.entry.Entry.TheVariants.{Settings as SettingsEntry, Release};
+ghost use Rattle.join_history.specs.Limits.{grace, repeat_span};
 ghost use Rattle.join_history.specs.Decisions.{IsDecisionFor};
 ghost use Rattle.join_history.specs.Leases as spec;
 ghost use Rattle.join_history.specs.Legal.{IsLegal, IsTimely, HasAged, MayFollow};
@@ -11,30 +12,30 @@ ghost use Rattle.registrar_state.specs.Decisions.{AreAged};
 ghost use Rattle.registrar_state.specs.State.{StandsFor, IsSome};
 
 use crate::contexts::Row;
-use crate::due::REPEAT_SPAN;
 use crate::legal::is_in_range;
 use crate::state::RegState;
 use address_leases::{GRACE, Leases};
 use edge_traits::PledgeId;
+use join_history::REPEAT_SPAN;
 use journal_text::{Entry, Settings};
 
 /// Whether a lease that ends then still holds its address at this time.
 pub(crate) fn is_held_until(until: u64, time: u64) -> bool
-    ensures { IsTrue result ↔ (time < until + 3600) }
+    ensures { IsTrue result ↔ (time < until + grace) }
 {
     time.saturating_sub(until) < GRACE
 }
 
 /// Whether a decision that was made then is more than 600 seconds old at this time.
 fn has_aged(made: u64, time: u64) -> bool
-    ensures { IsTrue result ↔ (made + 600 < time) }
+    ensures { IsTrue result ↔ (made + repeat_span < time) }
 {
     made.saturating_add(REPEAT_SPAN) < time
 }
 
 /// Whether some lease of the pledge still holds its address at this time.
 fn holds_some(leases: &Leases, pledge: PledgeId, time: u64) -> bool
-    ensures { IsTrue result ↔ ((g : Lease) × Contains leases.now.grants g × (g.id ≡ pledge) × (time < g.until + 3600)) }
+    ensures { IsTrue result ↔ ((g : Lease) × Contains leases.now.grants g × (g.id ≡ pledge) × (time < g.until + grace)) }
 {
     for at in 0..leases.kept() {
         let kept = leases.kept_at(at);

@@ -6,8 +6,8 @@ ghost use Rattle.registrar_state.specs.declared.last.Last.TheVariants as last;
 ghost use Rattle.registrar_state.specs.Last.{IsLeaseOf, IsLeaseBehind, IsToldBy};
 
 use crate::legal::lease_end;
-use crate::times::LATEST;
 use cbor_cojp::{Configuration, read_config};
+use join_history::TIME_END;
 
 /// The code of a Grant's answer, 2.04.
 const CHANGED: u8 = 68;
@@ -40,7 +40,7 @@ fn lease_of(config: &Configuration, time: u64) -> Last
         None => Last::Refuse(CHANGED),
         Some(short) => Last::Grant(
             short.address,
-            lease_end(time.min(LATEST), whole_hours(short.hours)),
+            lease_end(time.min(TIME_END - 1), whole_hours(short.hours)),
         ),
     }
 }

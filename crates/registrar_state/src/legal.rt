@@ -6,31 +6,17 @@ ghost use Rattle.journal_text.specs.declared.entry.Entry.{Entry as AnEntry};
 ghost use Rattle.journal_text.specs.declared.entry.Entry.TheVariants.{Enroll, Grant, Refuse, Block};
 ghost use Rattle.join_history.specs.Contexts.{HasCheck};
 ghost use Rattle.join_history.specs.Decisions.{IsFresh};
+ghost use Rattle.join_history.specs.Limits.{block_size, context_limit, number_end, time_end};
 ghost use Rattle.join_history.specs.Legal.{IsInRange, IsTimely, IsTrueReason, MayDecide, MayFollow};
 ghost use Rattle.join_history.specs.Leases as leases;
 ghost use Rattle.join_history.specs.Leases.{current_settings, IsDueAddress, HasNoAddress};
 ghost use Rattle.registrar_state.specs.State.{StandsFor, IsNow, IsSome};
 
 use crate::state::RegState;
-use crate::times::LATEST;
 use edge_traits::PledgeId;
+use join_history::{BLOCK_SIZE, CONTEXT_LIMIT, HOURS_LIMIT, NUMBER_END, POOL_END, TIME_END};
 use journal_text::{Refusal, Settings};
 use replay_window::Judged;
-
-/// How many numbers a Block adds.
-const BLOCK: u64 = 64;
-
-/// One past the greatest number.
-const NUMBER_END: u64 = 0x100_0000_0000;
-
-/// How many contexts there may be.
-const MAX_CONTEXTS: u32 = 32_768;
-
-/// One past the greatest short address.
-pub const POOL_END: u32 = 65_534;
-
-/// The longest lease with an end, in hours.
-const MAX_HOURS: u16 = 65_535;
 
 /// The bytes of the registrar's address.
 const ADDRESS_BYTES: usize = 16;
@@ -46,7 +32,7 @@ const SECONDS_AN_HOUR: u64 = 3600;
 
 /// The second at which a lease of `hours` hours ends, or 2^64 - 1 where it has no end.
 pub(crate) fn lease_end(at: u64, hours: u16) -> u64
-    requires { at < 2 ^ 40 }
+    requires { at < time_end }
     ensures { result ≡ leases.lease_end at hours }
 {
     if hours == 0 {
@@ -96,7 +82,7 @@ pub(crate) fn is_in_range(settings: &Settings) -> bool
     1 <= settings.first
         && 1 <= settings.count
         && u32::from(settings.first) + u32::from(settings.count) <= POOL_END
-        && settings.hours <= MAX_HOURS
+        && settings.hours <= HOURS_LIMIT
         && is_rate(settings.rate)
         && is_jrc(settings.jrc)
         && settings.refused.len() <= MOST_REFUSED
@@ -105,23 +91,23 @@ pub(crate) fn is_in_range(settings: &Settings) -> bool
 
 /// Whether the time isn't before the last one, and fits 40 bits.
 fn is_from(last: u64, time: u64) -> bool
-    ensures { IsTrue result ↔ ((last ≤ time) × (time < 2 ^ 40)) }
+    ensures { IsTrue result ↔ ((last ≤ time) × (time < time_end)) }
 {
-    last <= time && time <= LATEST
+    last <= time && time < TIME_END
 }
 
 /// Whether a Block may bring this end after the old one.
 fn is_next_end(old: u64, to: u64) -> bool
-    ensures { IsTrue result ↔ ((to ≡ old + 64) × (to ≤ 2 ^ 40)) }
+    ensures { IsTrue result ↔ ((to ≡ old + block_size) × (to ≤ number_end)) }
 {
-    to <= NUMBER_END && to == old.saturating_add(BLOCK)
+    to <= NUMBER_END && to == old.saturating_add(BLOCK_SIZE)
 }
 
 /// Whether the next context may have this number, where `count` are enrolled.
 fn is_next_context(count: usize, context: u32) -> bool
-    ensures { IsTrue result ↔ ((context ≡ count) × (context < 32768)) }
+    ensures { IsTrue result ↔ ((context ≡ count) × (context < context_limit)) }
 {
-    context < MAX_CONTEXTS && context as usize == count
+    context < CONTEXT_LIMIT && context as usize == count
 }
 
 impl RegState {
@@ -152,11 +138,11 @@ impl RegState {
             ((p : Id) (s : ASettings) → MayDecide h time context number p s → ⊥)
             (λ found. MayDecide h time context number found.0 found.1.now) }
         ensures pool { IfSome result (λ found. (1 ≤ found.1.now.first) × (found.1.now.first + found.1.now.count ≤ 65534)) }
-        ensures moment { IfSome result (λ found. (time < 2 ^ 40) × IsNow self.now time) }
+        ensures moment { IfSome result (λ found. (time < time_end) × IsNow self.now time) }
     {
         let pledge = self.pledge_of(context)?;
         let settings = self.settings()?;
-        if self.is_timely(time) && number <= LATEST && self.is_fresh(context, number) {
+        if self.is_timely(time) && number < NUMBER_END && self.is_fresh(context, number) {
             Some((pledge, settings))
         } else {
             None

@@ -25,7 +25,6 @@ mod updates;
 
 pub use join_history::{Due, Quiet, Want, history_laws};
 pub use last::Last;
-pub use legal::POOL_END;
 pub use opening::Opening;
 pub use room::Room;
-pub use state::{NoMemory, RegState};
+pub use state::RegState;

@@ -4,8 +4,7 @@ ghost use Rattle.std.specs.Int.{w64, from_be_bytes, to_be_bytes};
 ghost use Rattle.join_history.specs.Summary.{Ascends};
 ghost use Rattle.registrar_state.specs.LastGrants.{IsBefore, IsPlaceOf, IsGapFor, unheld};
 
-use crate::state::NoMemory;
-use edge_traits::PledgeId;
+use edge_traits::{NoMemory, PledgeId};
 use journal_text::SumNode;
 use rekey_core::Holders;
 use std::alloc::Global;

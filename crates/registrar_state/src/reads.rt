@@ -10,8 +10,8 @@ ghost use Rattle.registrar_state.specs.State.{StandsFor, IsEnrolled};
 
 use crate::contexts::Row;
 use crate::state::RegState;
-use crate::times::LATEST;
 use edge_traits::PledgeId;
+use join_history::TIME_END;
 use journal_text::Settings;
 
 impl RegState {
@@ -20,7 +20,7 @@ impl RegState {
     pub fn moment(&self, now: u64) -> u64
         ensures { (h : List Entry) → StandsFor self.now h → result ≡ times.moment h now }
     {
-        self.time.max(now.min(LATEST))
+        self.time.max(now.min(TIME_END - 1))
     }
 
     /// The settings in force.

@@ -6,21 +6,10 @@ use crate::contexts::Contexts;
 use crate::pledges::Pledges;
 use crate::room::Room;
 use address_leases::Leases;
+use edge_traits::NoMemory;
 use journal_text::Settings;
 use key_sets::Phase;
-use std::alloc::{AllocError, Global};
-use thiserror::Error;
-
-/// No memory is left.
-#[derive(Clone, Copy, Debug, PartialEq, Eq, Error)]
-#[error("no memory")]
-pub struct NoMemory;
-
-impl From<AllocError> for NoMemory {
-    fn from(_: AllocError) -> Self {
-        NoMemory
-    }
-}
+use std::alloc::Global;
 
 /// A history, as far as decisions need it. Once it is made it takes no memory.
 #[derive(Drop)]
@@ -51,10 +40,7 @@ impl RegState {
         ensures entries { IfOk result (λ state. (spare_room state).entries ≡ entries) }
     {
         let table = Contexts::empty(alloc, contexts)?;
-        let leases = match Leases::empty(alloc, entries) {
-            Ok(leases) => leases,
-            Err(_) => return Err(NoMemory),
-        };
+        let leases = Leases::empty(alloc, entries)?;
         let pledges = Pledges::empty(alloc, contexts)?;
         Ok(RegState {
             time: 0,

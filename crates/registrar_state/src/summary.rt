@@ -13,10 +13,10 @@ ghost use Rattle.registrar_state.specs.Summary.{IsContextOf, IsKept, IsLeaseBefo
 use crate::contexts::{LastRequest, Row};
 use crate::follow::is_held_until;
 use crate::pledges::{LastGrant, Pledges, number_of};
-use crate::state::{NoMemory, RegState};
+use crate::state::RegState;
 use address_leases::Leases;
 use arrayvec::ArrayVec;
-use edge_traits::PledgeId;
+use edge_traits::{NoMemory, PledgeId};
 use journal_text::{RegSummary, Settings, SumContext, SumGrant, SumNode, SumRequest};
 use key_sets::Phase;
 use std::alloc::Global;

@@ -4,9 +4,6 @@ ghost use Rattle.join_history.specs.Times as spec;
 
 use journal_text::Entry;
 
-/// The latest time that the state takes: 2^40 - 1.
-pub(crate) const LATEST: u64 = 0xff_ffff_ffff;
-
 /// The time of an entry that has one.
 pub(crate) fn time_of(entry: &Entry) -> Option<u64>
     ensures { result ≡ spec.time_of entry.now }

@@ -5,7 +5,7 @@ use Rattle.std.specs.List.{AllZip}
 use Rattle.edge_traits.specs.declared.names.PledgeId.{PledgeId}
 use Rattle.edge_traits.specs.declared.disk.Disk.{Ghosts}
 use Rattle.edge_traits.specs.Disk.{Areas, LeavesOnly}
-use Rattle.edge_traits.proofs.Moments.{joined}
+use Rattle.edge_traits.proofs.Moments.{joined, LeavesOnly-map}
 use Rattle.journal_text.specs.declared.settings.Settings.{Settings}
 use Rattle.journal_text.specs.declared.entry.Entry.{Entry}
 use Rattle.journal_text.specs.declared.entry.Entry.TheVariants.{Settings as SettingsEntry, Enroll}
@@ -14,7 +14,6 @@ use Rattle.join_history.specs.Leases.{current_settings}
 use Rattle.join_history.specs.Opening.{EnrollsRows, IsOpened}
 use Rattle.join_history.proofs.SettingsLemmas.{current_settings-push}
 use Rattle.registrar_state.proofs.StateLemmas.{IsLegal-stands}
-use Rattle.journal_store.proofs.Steps.{LeavesOnly-map}
 use Rattle.registrar_book.specs.declared.book.Book.{Book}
 use Rattle.registrar_book.specs.Journals.{HasPrefix}
 use Rattle.registrar_book.specs.Opening.{Row, HasContext, opening_time}
@@ -101,7 +100,7 @@ module _ {D : Type 0} {ghosts : Ghosts D} (disk : D) (settings : Settings) (ids 
       (moments.any_moment (subst IsTrue (sym tells) told)) in
       let P : Areas → Type 0 = λ image. ghosts.may_leave disk image ⊎ HasPrefix (length log) last.history image in
       joined ghosts.moment ghosts.left_since disk (book_disk book) end P (HasPrefix (durable_of book) last.history)
-      (LeavesOnly-map ghosts.moment ghosts.left_since ghosts.may_leave disk (book_disk book)
+      (LeavesOnly-map ghosts.moment ghosts.left_since disk (book_disk book)
       (λ image. ghosts.may_leave disk image ⊎ HasPrefix (length log) (log_of book) image) P first
       (λ image was. elim was [
         | inl left ↦ inl left

@@ -7,6 +7,7 @@ use Rattle.edge_traits.specs.Disk.{Areas, LeavesOnly, Only}
 use Rattle.edge_traits.specs.Sink.{Appends}
 use Rattle.journal_text.specs.declared.settings.Settings.{Settings}
 use Rattle.journal_text.specs.declared.entry.Entry.{Entry}
+use Rattle.join_history.specs.Limits.{entry_limit}
 use Rattle.join_history.specs.Times.{last_time}
 use Rattle.join_history.specs.Legal.{IsLegal}
 use Rattle.join_history.specs.Opening.{IsOpened}
@@ -15,7 +16,7 @@ use Rattle.registrar_book.specs.declared.answers.OpenFault.{OpenFault}
 use Rattle.registrar_book.specs.declared.answers.OpenFault.TheVariants as fault
 use Rattle.registrar_book.specs.Journals.{HasPrefix}
 use Rattle.registrar_book.specs.Opening.{IsLogOf, BookCause}
-use Rattle.registrar_book.specs.Books.{entry_limit, HasOpening}
+use Rattle.registrar_book.specs.Books.{HasOpening}
 use Rattle.tool_text.specs.declared.line.Line.{Line}
 use Rattle.tool_text.specs.declared.outcome.Outcome.{Outcome}
 use Rattle.tool_text.specs.Outcome.{outcome_text}

@@ -10,13 +10,13 @@ use Rattle.journal_text.specs.declared.entry.Entry.TheVariants as entry
 use Rattle.join_history.specs.declared.due.Due.{Due}
 use Rattle.join_history.specs.declared.due.Due.TheVariants.{Add, Again, Quiet}
 use Rattle.join_history.specs.declared.due.Want.TheVariants.{Join}
+use Rattle.join_history.specs.Limits.{entry_limit}
 use Rattle.join_history.specs.Due.{IsDue}
 use Rattle.join_history.specs.Legal.{IsLegal}
 use Rattle.registrar_state.specs.declared.last.Last.{Last}
 use Rattle.registrar_state.specs.declared.last.Last.TheVariants as last
 use Rattle.registrar_state.specs.Last.{IsLastAnswer}
 use Rattle.registrar_book.specs.Journals.{HasPrefix}
-use Rattle.registrar_book.specs.Books.{entry_limit}
 use Rattle.tool_text.specs.declared.line.Line.{Line}
 use Rattle.tool_text.specs.declared.line.Line.TheVariants.{Skipped, Ask}
 use Rattle.tool_text.specs.declared.outcome.Outcome.{Outcome}

@@ -2,6 +2,7 @@
 use Rattle.std.specs.Prelude.{◌≡◌, ◌+◌, ◌≤◌, ℕ, List, [], ◌∷◌, None, codes, length}
 use Rattle.std.specs.Str.Parse.{AllDigits, digits_value}
 use Rattle.journal_text.specs.declared.settings.Settings.{Settings}
+use Rattle.join_history.specs.Limits.{pool_end, hours_limit}
 use Rattle.registrar_tool.specs.declared.words.Command.{Command}
 use Rattle.registrar_tool.specs.declared.words.Command.TheVariants.{Init, Decide}
 
@@ -19,9 +20,9 @@ pub record AreSettings (first count hours : List ℕ) (settings : Settings) : Ty
   pub hours_is : IsNumber hours settings.hours
   pub first_in_range : 1 ≤ settings.first
   pub count_in_range : 1 ≤ settings.count
-  pub last_in_range : settings.first + settings.count ≤ 65534
+  pub last_in_range : settings.first + settings.count ≤ pool_end
   pub hours_at_least : 1 ≤ settings.hours
-  pub hours_at_most : settings.hours ≤ 65535
+  pub hours_at_most : settings.hours ≤ hours_limit
   pub no_rate : settings.rate ≡ None
   pub no_address : settings.jrc ≡ None
   pub none_refused : settings.refused.items ≡ []

@@ -4,6 +4,7 @@ ghost use Rattle.std.specs.List.{AllZip};
 ghost use Rattle.edge_traits.specs.Faults.{HasCause};
 ghost use Rattle.journal_text.specs.declared.entry.Entry.{Entry};
 ghost use Rattle.journal_text.specs.declared.entry.Entry.TheVariants.{Enroll};
+ghost use Rattle.join_history.specs.Limits.{number_end};
 ghost use Rattle.registrar_book.specs.Books.{log_of, durable_of, book_disk};
 ghost use Rattle.tool_text.specs.declared.line.Line.TheVariants.{Ask};
 ghost use Rattle.registrar_tool.specs.Told.{Standing, IsAnswered, IsTold, decide_check, granted_of, again_of};
@@ -59,7 +60,7 @@ fn decide_ask<D: Disk>(
     number: u64,
 ) -> Outcome
     requires listed { Contains ids.now id }
-    requires number { number < 2 ^ 40 }
+    requires number { number < number_end }
     requires ready { IsReady book.old ids.now contexts.now }
     ensures told { (context : ℕ) × Contains (log_of book.old) (Enroll context id (decide_check id))
         × IsAnswered D.Disk (standing_of book.old) time context number result (standing_of book.new) }

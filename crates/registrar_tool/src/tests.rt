@@ -61,27 +61,18 @@ fn run_over(
     Ok((status, written))
 }
 
-fn content(alloc: Global, disk: &mut MemDisk, area: Area) -> Result<Vec<u8>, Fail> {
-    let len = disk.len(area)?;
-    let mut bytes = vec![in alloc; 0; len as usize]?;
-    disk.read_at(area, 0, &mut bytes)?;
-    Ok(bytes)
-}
-
 #[test]
 fn an_empty_journal_is_made_once(rt: HostRuntime) -> Result<(), Fail> {
     let alloc = rt.alloc();
     let disk = MemDisk::new(alloc, b"", b"", &[], 64, 256)?;
-    let (mut disk, status, written) = run_on(alloc, "init", b"", SOUND, disk)?;
+    let (disk, status, written) = run_on(alloc, "init", b"", SOUND, disk)?;
     assert_eq!(rt; status, Status::Done);
     assert_eq!(rt; written.as_slice(), b"formatted\n".as_slice());
-    let left = content(alloc, &mut disk, Area::Left)?;
-    assert_eq!(rt; left.as_slice(), EMPTY.as_slice());
-    let (mut disk, status, written) = run_on(alloc, "init", b"", SOUND, disk)?;
+    assert_eq!(rt; disk.content(Area::Left), EMPTY.as_slice());
+    let (disk, status, written) = run_on(alloc, "init", b"", SOUND, disk)?;
     assert_eq!(rt; status, Status::AlreadyThere(43));
     assert_eq!(rt; written.len(), 0);
-    let right = content(alloc, &mut disk, Area::Right)?;
-    assert_eq!(rt; right.as_slice(), b"\x00".as_slice());
+    assert_eq!(rt; disk.content(Area::Right), b"\x00".as_slice());
     Ok(())
 }
 
@@ -370,14 +361,13 @@ fn a_key_of_another_pledge_is_told(rt: HostRuntime) -> Result<(), Fail> {
     let alloc = rt.alloc();
     let disk = disk_of(alloc, &OTHER_PLEDGE, &[])?;
     let script = b"ask 0 00000000000000a1 0\n";
-    let (mut disk, status, written) = run_on(alloc, "decide 1 2 24", script, SOUND, disk)?;
+    let (disk, status, written) = run_on(alloc, "decide 1 2 24", script, SOUND, disk)?;
     assert_eq!(rt;
         status,
         Status::SameKey(PledgeId([0, 0, 0, 0, 0, 0, 0, 0xa2]), FIRST_ID)
     );
     assert_eq!(rt; written.len(), 0);
-    let left = content(alloc, &mut disk, Area::Left)?;
-    assert_eq!(rt; left.as_slice(), OTHER_PLEDGE.as_slice());
+    assert_eq!(rt; disk.content(Area::Left), OTHER_PLEDGE.as_slice());
     Ok(())
 }
 

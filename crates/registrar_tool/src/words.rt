@@ -1,12 +1,12 @@
 //! The words of the program.
-ghost use Rattle.std.specs.Prelude.{◌≡◌, ◌↔◌, ◌^◌, ◌<◌, ℕ, IfSome, IfNone, IsTrue, map, string_bytes};
+ghost use Rattle.std.specs.Prelude.{◌≡◌, ◌↔◌, ◌⊎◌, ◌^◌, ◌<◌, ℕ, IfSome, IfNone, IsTrue, map, string_bytes};
 ghost use Rattle.journal_text.specs.declared.settings.Settings.{Settings};
 ghost use Rattle.registrar_tool.specs.declared.words.Command.{Command};
 ghost use Rattle.registrar_tool.specs.Words.{IsNumber, AreSettings, IsDecide, IsInit, IsCommand};
 
 use arrayvec::ArrayVec;
+use join_history::POOL_END;
 use journal_text::Settings;
-use registrar_state::POOL_END;
 
 /// What the words ask for.
 #[derive(Debug, Drop)]
@@ -91,4 +91,17 @@ pub(crate) fn read_words(words: &[String]) -> Option<Command>
         return Some(Command::Init);
     }
     read_decide(words).map(Command::Decide)
+}
+
+/// Whether the words are a command of `run`: a program that has files to open asks this first.
+pub fn is_command(words: &[String]) -> bool
+    ensures { IsTrue result ↔ (IsInit (map string_bytes words.now) ⊎ ((settings : Settings) × IsDecide (map string_bytes words.now) settings)) }
+{
+    if is_init(words) {
+        return true;
+    }
+    match read_decide(words) {
+        Some(_) => true,
+        None => false,
+    }
 }

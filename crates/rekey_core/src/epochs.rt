@@ -1,10 +1,4 @@
 //! The epochs of a pledge.
-use thiserror::Error;
-
-/// Memory ran out.
-#[derive(Clone, Copy, Debug, PartialEq, Eq, Error)]
-#[error("out of memory")]
-pub struct NoMemory;
 
 /// The greatest epoch of which a pledge has the keys, and the greatest for which it is stale. 0
 /// where there is none.

@@ -5,8 +5,8 @@ ghost use Rattle.edge_traits.specs.declared.names.PledgeId.{PledgeId as Id};
 ghost use Rattle.rekey_core.specs.Writes.{Write, granted as was_granted, given as was_given, stale as was_stale, Has, IsStaleFor};
 ghost use Rattle.rekey_core.specs.Held.{Held, known_of, epochs_of, StandsFor, IsLatest, Sets};
 
-use crate::epochs::{Epochs, NoMemory};
-use edge_traits::PledgeId;
+use crate::epochs::Epochs;
+use edge_traits::{NoMemory, PledgeId};
 use indexmap::IndexMap;
 use std::alloc::Global;
 use std::marker::Model;

@@ -8,5 +8,5 @@ mod holders;
 #[cfg(test)]
 mod tests;
 
-pub use epochs::{Epochs, NoMemory};
+pub use epochs::Epochs;
 pub use holders::Holders;

@@ -4,15 +4,15 @@
 #![tactic(auto)]
 
 mod draw;
-mod faults;
 mod rule;
 mod seat;
+mod seat_full;
 mod table;
 #[cfg(test)]
 mod tests;
 
 pub use draw::Draw;
-pub use faults::{NoMemory, SeatFull};
 pub use rule::{Drawn, View};
 pub use seat::Seat;
+pub use seat_full::SeatFull;
 pub use table::SeqTable;

@@ -7,10 +7,11 @@ ghost use Rattle.seq_table.specs.Ends.{Gathers, EndsWith};
 ghost use Rattle.seq_table.specs.Seats.{numbers_over, parts_over, new_seat, with_draw, with_one_split_less, joined};
 
 use crate::draw::Draw;
-use crate::faults::{NoMemory, SeatFull};
 use crate::rule::{Apart, DrawnOnce, Draws, Together, View};
 use crate::seat::{Place, Seat};
+use crate::seat_full::SeatFull;
 use atomic_table::{Closed, Shared, Table};
+use edge_traits::NoMemory;
 use std::alloc::{AllocError, Global};
 use std::marker::Model;
 

@@ -1,7 +1,8 @@
 ghost use Rattle.std.specs.Prelude.{◌≡◌, ◌<◌, All, IfOk, IfSome, length, vec_len};
 ghost use Rattle.seq_table.specs.Seats.{new_seat};
 
-use crate::{Draw, NoMemory, Seat, SeqTable};
+use crate::{Draw, Seat, SeqTable};
+use edge_traits::NoMemory;
 use std::alloc::{AllocError, Global};
 use std::test::Fail;
 use std::thread;

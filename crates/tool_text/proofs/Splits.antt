@@ -1,4 +1,4 @@
--- Cuts at a byte that the front lacks, and the first line of a script.
+-- Cuts at a byte that the prefix lacks, and the first line of a script.
 use Rattle.std.proofs.Common.{◌≡◌, ◌≢◌, ℕ, ◌<◌, eqb, false, List, [], ◌∷◌, ◌++◌, length, refl, arith}
 use Rattle.std.proofs.lemmas.List.Elements.{All-head, All-tail}
 use Rattle.std.proofs.lemmas.Bool.Decides.{nat_tests}

@@ -7,7 +7,6 @@
 #![tactic(auto)]
 
 mod closing;
-mod faults;
 mod held;
 mod held_value;
 mod laws;
@@ -23,7 +22,6 @@ mod steps;
 mod tests;
 
 pub use closing::Closing;
-pub use faults::NoMemory;
 pub use held::Held;
 pub use laws::addition_laws;
 pub use lock::TurnLock;

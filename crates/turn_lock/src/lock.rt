@@ -7,13 +7,13 @@ ghost use Rattle.turn_lock.specs.Locks.{new_pass, with_turn, with_seen};
 ghost use Rattle.turn_lock.specs.History.{IsReported, places_over};
 
 use crate::closing::{Closing, new_seat};
-use crate::faults::NoMemory;
 use crate::held::Held;
 use crate::new_table::make_table;
 use crate::pass::Pass;
 use crate::reports::Reports;
 use crate::rule::{ByTurns, Start, View};
 use crate::steps::{block_without_turns, share_seen, take_turn};
+use edge_traits::NoMemory;
 use std::alloc::Global;
 use std::marker::Model;
 use std::sync::Wait;

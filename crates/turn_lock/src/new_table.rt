@@ -4,13 +4,13 @@ ghost use Rattle.turn_lock.specs.Locks.{new_pass};
 ghost use Rattle.turn_lock.specs.Views.{first_view};
 ghost use Rattle.turn_lock.specs.Seated.{IsLaid, lock_of};
 
-use crate::faults::NoMemory;
 use crate::lock::Table;
 use crate::pass::{LocalState, Pass, Seat};
 use crate::reports::Reports;
 use crate::rule::{Apart, Start};
 use crate::steps::Words;
 use atomic_table::Refused;
+use edge_traits::NoMemory;
 use std::alloc::{AllocError, Global};
 use std::snapshot::Snapshot;
 

@@ -5,10 +5,10 @@ ghost use Rattle.turn_lock.specs.History.{IsReported, places_over};
 ghost use Rattle.turn_lock.specs.Numbers.{report_of, name_of, IsLastAt, AddedOne};
 ghost use Rattle.seat_sums.specs.Counts.{times, once_within};
 
-use crate::faults::NoMemory;
 use crate::lock::TurnLock;
 use crate::pass::Pass;
 use crate::reports::Reports;
+use edge_traits::NoMemory;
 use std::alloc::Global;
 use std::sync::Wait;
 

@@ -7,7 +7,8 @@ mod any_value;
 mod two_locks;
 mod wakes;
 
-use crate::{NoMemory, Numbers, Pass, TurnLock, add, end};
+use crate::{Numbers, Pass, TurnLock, add, end};
+use edge_traits::NoMemory;
 use std::alloc::Global;
 use std::sync::Wait;
 use std::sync::atomic::AtomicU64;

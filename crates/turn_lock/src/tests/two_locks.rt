@@ -1,7 +1,8 @@
 //! Workers add numbers to a list while a press copies it.
 ghost use Rattle.std.specs.Prelude.{◌≡◌, All, IfOk, false, length};
 
-use crate::{NoMemory, Numbers, Pass, Press, TurnLock, Worker, add, copy_all, end_both, is_copied};
+use crate::{Numbers, Pass, Press, TurnLock, Worker, add, copy_all, end_both, is_copied};
+use edge_traits::NoMemory;
 use std::alloc::Global;
 use std::sync::Wait;
 use std::sync::atomic::AtomicU64;

@@ -1,7 +1,8 @@
 //! A pass that parks is woken at its turn. No clause promises it.
 ghost use Rattle.std.specs.Prelude.{◌≡◌, All, IfOk, false, length};
 
-use crate::{NoMemory, Numbers, Pass, TurnLock, end};
+use crate::{Numbers, Pass, TurnLock, end};
+use edge_traits::NoMemory;
 use std::sync::Wait;
 use std::test::Fail;
 use std::thread;

@@ -3,6 +3,7 @@ use Rattle.std.proofs.Common.{◌≡◌, ◌≤◌, ◌+◌, ◌++◌, ℕ, Opti
 use Rattle.std.specs.List.{AllZip}
 use Rattle.journal_text.specs.declared.settings.Settings.{Settings}
 use Rattle.journal_text.specs.declared.entry.Entry.{Entry}
+use Rattle.join_history.specs.Limits.{context_limit}
 use Rattle.join_history.specs.Legal.{IsLegal}
 use Rattle.registrar_book.specs.declared.answers.OpenFault.{OpenFault}
 use Rattle.registrar_book.specs.declared.answers.OpenFault.TheVariants.{Disk, NotAJournal, SameKey, ContextsFull, JournalFull, NoMemory}
@@ -53,7 +54,7 @@ opening_entries-requires-clause-first c =
 
 pub overflow_cast-result-then-length : goal.overflow_cast-result-then-length
 overflow_cast-result-then-length c =
-    let few : length c.rows.result.now ≤ 32768 = omega (arith, c.if-count.false, ap length c.rows-count.ensures, ap length c.rows.ensures) in
+    let few : length c.rows.result.now ≤ context_limit = omega (arith, c.if-count.false, ap length c.rows-count.ensures, ap length c.rows.ensures) in
     omega (arith, few_entries c.new_settings-settings.result (length c.rows-first.result.now) (length c.rows-first.result.now) c.rows.result.now c.in-Ok-opening_entries.entries.items c.in-Ok-opening_entries.ensures.entries few, ap length c.as_slice.ensures.value, c.requires.short)
 
 pub returns-then-length-clause-err : goal.returns-then-length-clause-err
@@ -68,7 +69,7 @@ returns-then-length-clause-err c =
     = c.in-Ok-opening_entries.ensures.entries ∙ ap (λ (k : List Row). first_entries first ++ enrolls (length k) (drop (length k) c.rows.result.now)) before
     ∙ ap (λ (l : List Row). first_entries first ++ enrolls (length (known_of log)) (drop (length (known_of log)) l)) c.rows.ensures in
     let placed = subst (λ (r : List Row). PlacesRows (known_of log) r known) c.deref.ensures.value (subst (λ (k : List Row). PlacesRows k c.deref.result.now known) c.in-Ok.ensures c.in-Ok-place_rows.ensures.placed.0) in
-    let few : length known ≤ 32768 = omega (arith, c.if-count.false, ap length c.rows-count.ensures) in
+    let few : length known ≤ context_limit = omega (arith, c.if-count.false, ap length c.rows-count.ensures) in
     too_many log settings rows c.args.now first known c.in-Ok-opening_entries.entries.items (IsLegal-stands c.args.state.now log c.requires.stands) c.requires.settings (c.new_settings-settings.ensures log c.requires.stands) placed few is
     (length log + length c.as_slice.result.now) (omega (arith, ap length c.as_slice.ensures.value)) c.if-length.true
 
@@ -84,7 +85,7 @@ returns-clause-ok c =
     = c.in-Ok-opening_entries.ensures.entries ∙ ap (λ (k : List Row). first_entries first ++ enrolls (length k) (drop (length k) c.rows.result.now)) before
     ∙ ap (λ (l : List Row). first_entries first ++ enrolls (length (known_of log)) (drop (length (known_of log)) l)) c.rows.ensures in
     let placed = subst (λ (r : List Row). PlacesRows (known_of log) r known) c.deref.ensures.value (subst (λ (k : List Row). PlacesRows k c.deref.result.now known) c.in-Ok.ensures c.in-Ok-place_rows.ensures.placed.0) in
-    let few : length known ≤ 32768 = omega (arith, c.if-count.false, ap length c.rows-count.ensures) in
+    let few : length known ≤ context_limit = omega (arith, c.if-count.false, ap length c.rows-count.ensures) in
     let places = subst (λ (r : List Row). AllZip (IsRowAt known) r c.in-Ok-place_rows.contexts.items) c.deref.ensures.value c.in-Ok-place_rows.ensures.placed.1 in
     plan_of log settings rows c.args.now first known c.in-Ok-opening_entries.entries.items (IsLegal-stands c.args.state.now log c.requires.stands) c.requires.settings (c.new_settings-settings.ensures log c.requires.stands) placed few is
     c.in-Ok-place_rows.contexts.items places (omega (arith, ap length c.as_slice.ensures.value, c.if-length.false))

@@ -2,6 +2,7 @@
 use Rattle.std.proofs.Common.{◌≡◌, ◌+◌, ◌++◌, ◌∷◌, [], List, take, drop, ◌∙◌, sym, ap, subst, arith, take-append-drop}
 use Rattle.std.proofs.lemmas.List.{take_more, drop_more, length-take-le}
 use Rattle.journal_text.specs.declared.entry.Entry.{Entry}
+use Rattle.join_history.specs.Limits.{context_limit, entry_limit}
 use Rattle.join_history.specs.Contexts.{context_count}
 use Rattle.registrar_state.specs.State.{StandsFor, spare_room}
 use Rattle.registrar_state.proofs.StateLemmas.{IsLegal-stands}
@@ -40,10 +41,10 @@ loop-index-preserved c =
     let i = c.loop-index.index in
     let e = c.index-log-index.result in
     let more : take i log ++ e ∷ [] ≡ take (i + 1) log = sym (take_more log i e c.loop-index-test.true ∙ ap (λ (x : Entry). take i log ++ x ∷ []) (sym c.index-log-index.is)) in
-    let room = room_more (spare_room c.loop-index.state) (spare_room c.apply.new.self) e (take i log) 262144 i c.apply.ensures.room c.loop-index.invariant.contexts c.loop-index.invariant.room in
+    let room = room_more (spare_room c.loop-index.state) (spare_room c.apply.new.self) e (take i log) entry_limit i c.apply.ensures.room c.loop-index.invariant.contexts c.loop-index.invariant.room in
     record {
       stands = subst (λ (l : List Entry). StandsFor c.apply.new.self l) more (c.apply.ensures.stands (take i log) c.loop-index.invariant.stands);
-      contexts = subst (λ (l : List Entry). (spare_room c.apply.new.self).contexts + context_count l ≡ 32768) more room.0;
+      contexts = subst (λ (l : List Entry). (spare_room c.apply.new.self).contexts + context_count l ≡ context_limit) more room.0;
       room = room.1;
       short = omega (arith, most_room (spare_room c.loop-index.state) (spare_room c.apply.new.self) e c.apply.ensures.room, c.loop-index.invariant.short);
     }

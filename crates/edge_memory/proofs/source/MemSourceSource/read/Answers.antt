@@ -1,5 +1,5 @@
 use Rattle.std.proofs.Common.{◌≤◌, ◌∙◌, ◌+◌, ◌-◌, length, take, drop, ap, arith}
-use Rattle.edge_memory.proofs.Slices.{copied_front}
+use Rattle.edge_memory.proofs.Slices.{copied_prefix}
 use Rattle.edge_memory.proofs.source.MemSourceSource.read.Goals as goal
 
 pub returns-clause-taken : goal.returns-clause-taken
@@ -8,4 +8,4 @@ returns-clause-taken c =
     let k = c.min-count.result in
     let fits : k ≤ length c.args.buf.now = omega arith in
     let copied = c.copy_from_slice.ensures in
-    copied_front c.args.self.now.bytes.items c.copy_from_slice.new.self c.args.buf.now at k fits copied.len (copied.after ∙ ap (λ l. take (at + k - at) (drop at l)) c.deref.ensures.value)
+    copied_prefix c.args.self.now.bytes.items c.copy_from_slice.new.self c.args.buf.now at k fits copied.len (copied.after ∙ ap (λ l. take (at + k - at) (drop at l)) c.deref.ensures.value)

@@ -4,11 +4,10 @@ use Rattle.std.specs.Prelude.{IsTrue, Result, Ok, Err, IfOk, Vec}
 use Rattle.std.specs.declared.alloc.Global.{Global}
 use Rattle.edge_traits.specs.declared.disk.Disk.{Ghosts}
 use Rattle.edge_traits.specs.Disk.{Areas, LeavesOnly}
-use Rattle.edge_traits.proofs.Moments.{joined}
+use Rattle.edge_traits.proofs.Moments.{joined, LeavesOnly-map}
 use Rattle.journal_text.specs.declared.settings.Settings.{Settings}
 use Rattle.journal_text.specs.declared.entry.Entry.{Entry}
 use Rattle.journal_store.specs.Store.{disk_of, end_of}
-use Rattle.journal_store.proofs.Steps.{LeavesOnly-map}
 use Rattle.registrar_book.specs.Journals.{HasLog, HasPrefix}
 use Rattle.registrar_book.specs.Opening.{Row}
 use Rattle.registrar_book.specs.declared.answers.OpenFault.{OpenFault}
@@ -43,7 +42,7 @@ returns-in-Ok-prepare-clause-opened g c =
     let second = subst (λ (l : List Entry). LeavesOnly g.D.Disk.moment g.D.Disk.left_since mid (book_disk_after c.open.result) (HasPrefix (length l) (l ++ added))) prepared.log_is (c.open.ensures.any_moment told') in
     let P : Areas → Type 0 = λ image. g.D.Disk.may_leave old image ⊎ HasPrefix (length log) (log ++ added) image in
     joined g.D.Disk.moment g.D.Disk.left_since old mid (book_disk_after c.open.result) P (HasPrefix (length log) (log ++ added))
-    (LeavesOnly-map g.D.Disk.moment g.D.Disk.left_since g.D.Disk.may_leave old mid (g.D.Disk.may_leave old) P first (λ image left. inl left)) second
+    (LeavesOnly-map g.D.Disk.moment g.D.Disk.left_since old mid (g.D.Disk.may_leave old) P first (λ image left. inl left)) second
     (λ image has. inr has) in
     open_on c.open.result
     (λ book contexts. (log : List Entry) (settings : Settings) (rows : List Row) (now : Option ℕ) → IsPrepared log settings rows now c.in-Ok-prepare.prepared → IsOpenBook log settings rows now book contexts.items)
@@ -72,7 +71,7 @@ returns-in-Ok-prepare-clause-any_moment g c told =
     let second = subst (λ (l : List Entry). LeavesOnly g.D.Disk.moment g.D.Disk.left_since mid (book_disk_after c.open.result) (HasPrefix (length l) (l ++ added))) prepared.log_is (c.open.ensures.any_moment told') in
     let P : Areas → Type 0 = λ image. g.D.Disk.may_leave old image ⊎ HasOpening (g.D.Disk.seen old) c.args.opening.now.settings c.args.opening.now.rows.items c.args.now image in
     joined g.D.Disk.moment g.D.Disk.left_since old mid (book_disk_after c.open.result) P (HasPrefix (length log) (log ++ added))
-    (LeavesOnly-map g.D.Disk.moment g.D.Disk.left_since g.D.Disk.may_leave old mid (g.D.Disk.may_leave old) P first (λ image left. inl left)) second
+    (LeavesOnly-map g.D.Disk.moment g.D.Disk.left_since old mid (g.D.Disk.may_leave old) P first (λ image left. inl left)) second
     (λ image has. inr (record {
       log = log;
       has = (end_of c.in-Ok.opened.0, c.in-Ok.ensures.read told);

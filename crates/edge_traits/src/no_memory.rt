@@ -1,10 +1,10 @@
-//! The one error of making an object of this crate.
+//! Want of memory, as every crate says it.
 use std::alloc::{AllocError, AllocFailed};
 use thiserror::Error;
 
-/// Memory ran out.
+/// No memory was left.
 #[derive(Clone, Copy, Debug, PartialEq, Eq, Error)]
-#[error("out of memory")]
+#[error("no memory")]
 pub struct NoMemory;
 
 impl From<AllocError> for NoMemory {
