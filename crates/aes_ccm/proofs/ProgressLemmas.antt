@@ -7,7 +7,7 @@ use Rattle.aes_ccm.specs.Cipher.{encrypted}
 use Rattle.aes_ccm.specs.Ccm.{cbc_mac, key_block, key_stream, crypted}
 use Rattle.aes_ccm.proofs.BytesLemmas.{length-xor_first, xor-empty, blocks-more}
 use Rattle.aes_ccm.proofs.AadLemmas.{cbc_mac-more, cbc_mac-none}
-use Rattle.aes_ccm.proofs.StreamLemmas.{streamed, length-streamed, streamed-more, length-key_block, IsFront, front}
+use Rattle.aes_ccm.proofs.StreamLemmas.{streamed, length-streamed, streamed-more, length-key_block, IsFirstBlock, first_block}
 
 -- ---- one turn's write
 
@@ -24,7 +24,7 @@ written old block from n inside e len =
     let new : List ℕ = take from old ++ (block ++ drop 16 rest) in
     let same : take from old ++ (block ++ drop n rest) ≡ new = ap (λ xs. take from old ++ (block ++ xs)) behind in
     let before : length (take from old) ≡ from = length-take-le from old (omega arith) in
-    let parts : IsFront block (drop 16 rest) = front block (drop 16 rest) (omega arith) (λ short. omega (arith, length-drop 16 rest)) in
+    let parts : IsFirstBlock block (drop 16 rest) = first_block block (drop 16 rest) (omega arith) (λ short. omega (arith, length-drop 16 rest)) in
     record {
       done = ap (take (from + 16)) same ∙ take-add from 16 new
           ∙ ap (λ xs. xs ++ take 16 (drop from new)) (take_at (take from old) (block ++ drop 16 rest) from before)
@@ -98,11 +98,11 @@ turned key nonce text block new i n inside e eblock enew =
     }
 
 -- a chain over a block and what follows it
-cbc_mac-front : (key mac block tail : List ℕ) → 0 < length block → length block ≤ 16 → (length block < 16 → length tail ≡ 0)
+cbc_mac-first_block : (key mac block tail : List ℕ) → 0 < length block → length block ≤ 16 → (length block < 16 → length tail ≡ 0)
     → cbc_mac key mac (blocks (block ++ tail)) ≡ cbc_mac key (encrypted key (xor mac (padded block))) (blocks tail)
 unfolding cbc_mac
-cbc_mac-front key mac block tail some small last =
-    let parts : IsFront block tail = front block tail small last in
+cbc_mac-first_block key mac block tail some small last =
+    let parts : IsFirstBlock block tail = first_block block tail small last in
     let more = blocks-more (block ++ tail) (omega (arith, length-append block tail)) in
     ap (cbc_mac key mac) more
     ∙ ap (λ b. cbc_mac key (encrypted key (xor mac (padded b))) (blocks (drop 16 (block ++ tail)))) parts.take
@@ -150,7 +150,7 @@ opening-next key nonce start first mac text next block new i n inside e before e
     record {
       chain = ap (λ b. cbc_mac key next (blocks (streamed key nonce (i + 1 + 1) b))) turn.rest
           ∙ ap (λ x. cbc_mac key x (blocks tail)) enext
-          ∙ sym (cbc_mac-front key mac block tail turn.some turn.small turn.last)
+          ∙ sym (cbc_mac-first_block key mac block tail turn.some turn.small turn.last)
           ∙ ap (λ b. cbc_mac key mac (blocks b)) (sym turn.first) ∙ before.chain;
       sums = turn.sums ∙ before.sums;
     }

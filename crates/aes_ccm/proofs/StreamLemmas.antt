@@ -54,12 +54,12 @@ streamed-more key nonce i text h =
 -- ---- a block before the rest
 
 -- a block and what follows it, which is nothing where the block isn't whole
-pub record IsFront (block rest : List ℕ) : Type 0 where
+pub record IsFirstBlock (block rest : List ℕ) : Type 0 where
   pub take : take 16 (block ++ rest) ≡ block
   pub drop : drop 16 (block ++ rest) ≡ rest
 
-pub front : (block rest : List ℕ) → length block ≤ 16 → (length block < 16 → length rest ≡ 0) → IsFront block rest
-front block rest h last = elim (cases_lt (length block) 16) [
+pub first_block : (block rest : List ℕ) → length block ≤ 16 → (length block < 16 → length rest ≡ 0) → IsFirstBlock block rest
+first_block block rest h last = elim (cases_lt (length block) 16) [
   | inl short ↦
       let none : rest ≡ [] = nil_from_length rest (last short) in
       let alone : block ++ rest ≡ block = ap (λ xs. block ++ xs) none ∙ append-nil block in

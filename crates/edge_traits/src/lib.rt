@@ -1,4 +1,4 @@
-// The outside as the registrar sees it: sources, sinks and disks, the names of pledges and peers, want of memory.
+// The outside as the registrar sees it: sources, sinks and disks, the names of pledges and peers, and `NoMemory`.
 // It promises the layers above what each call does to what an object reports, and that a call fails only where
 // its count of faults rose. The definitions are in specs/: Faults, Source, Sink, Disk and Runs.
 #![tactic(auto)]

@@ -1,4 +1,4 @@
-//! Want of memory, as every crate says it.
+//! The one error for memory that was refused.
 use std::alloc::{AllocError, AllocFailed};
 use thiserror::Error;
 

@@ -1,4 +1,4 @@
 mod BlockLemmas
-mod FrontLemmas
+mod PrefixLemmas
 mod KeyLemmas
 mod OutputLemmas

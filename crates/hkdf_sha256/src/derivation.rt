@@ -23,7 +23,7 @@ pub fn expand<const L: usize>(prk: &[u8; 32], info: &[u8]) -> [u8; L]
     requires { L ≤ 8160 }
     ensures value { result ≡ output_keying_material prk.now info.now L }
     // A shorter output is a prefix of a longer one, and a block or less is a prefix of one code.
-    ensures front { (m : ℕ) → L ≤ m → result ≡ take L (output_keying_material prk.now info.now m) }
+    ensures prefix { (m : ℕ) → L ≤ m → result ≡ take L (output_keying_material prk.now info.now m) }
     ensures one_block { L ≤ 32 → result ≡ take L (hmac_sha256 prk.now (info.now ++ 1 ∷ [])) }
 {
     let mut output = [0; L];

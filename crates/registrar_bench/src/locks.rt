@@ -5,7 +5,7 @@ use std::alloc::Global;
 use std::sync::{Mutex, Wait};
 use turn_lock::{Numbers, Pass, TurnLock, end};
 
-/// So many holdings of the lock by turns, and the count that they kept.
+/// Takes the lock by turns `count` times, and returns the count that its value kept.
 pub fn turns<R: Wait>(rt: &R, alloc: Global, count: u64) -> Option<u64> {
     let Ok(numbers) = Numbers::new(alloc, 0, 0) else {
         return None;
@@ -35,7 +35,7 @@ fn hold<R: Wait>(rt: &R, lock: &TurnLock<Numbers>, pass: &mut Pass<Numbers>, cou
     }
 }
 
-/// So many holdings of a mutex, and the count that they kept.
+/// Locks a mutex `count` times, and returns the count that its value kept.
 pub fn mutexes<R: Wait>(rt: &R, count: u64) -> u64 {
     let mutex = Mutex::new(0u64);
     for _ in 0..count {

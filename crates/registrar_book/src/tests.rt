@@ -283,7 +283,7 @@ fn there_are_at_most_32768_contexts(rt: HostRuntime) -> Result<(), Fail> {
     Ok(())
 }
 
-/// So many entries of the settings.
+/// The text of `count` entries of the settings.
 fn settings_text(alloc: Global, count: usize) -> Result<Vec<u8>, Fail> {
     let mut text = Vec::new(alloc);
     for _ in 0..count {

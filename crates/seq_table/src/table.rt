@@ -68,7 +68,7 @@ impl SeqTable {
         Ok((table, seats))
     }
 
-    /// So many seats, cut from the first.
+    /// `seats` seats, cut from the first.
     fn deal(&self, alloc: Global, mut first: Seat, seats: u32) -> Result<Vec<Seat>, AllocError>
         requires first { first ≡ new_seat self.now 65534 }
         requires seats { (1 ≤ seats) × (seats ≤ 65535) }

@@ -1,11 +1,11 @@
 use Rattle.std.proofs.Common.{◌∙◌, ap, take}
 use Rattle.std.proofs.lemmas.List.{length-replicate}
 use Rattle.hkdf_sha256.specs.Hkdf.{output_keying_material}
-use Rattle.hkdf_sha256.proofs.FrontLemmas.{shorter_output, one_block}
+use Rattle.hkdf_sha256.proofs.PrefixLemmas.{shorter_output, one_block}
 use Rattle.hkdf_sha256.proofs.derivation.expand.Goals as goal
 
-pub returns-clause-front : goal.returns-clause-front
-returns-clause-front g c m below =
+pub returns-clause-prefix : goal.returns-clause-prefix
+returns-clause-prefix g c m below =
     let prk = c.args.prk.now in
     let info = c.args.info.now in
     c.fill.ensures ∙ ap (output_keying_material prk info) (length-replicate g.row.L 0) ∙ shorter_output prk info g.row.L m below
