@@ -26,7 +26,7 @@ IsRepeat h c n time = (e : Entry) × IsLastDecision h c e × IsDecision c n e ×
 abbrev pub IsNoRepeat : List Entry → ℕ → ℕ → Type 0
 IsNoRepeat h c n = (time : ℕ) → IsRepeat h c n time → ⊥
 
--- a wish that a request can have: no request asks for the refusal for want of an address
+-- a wish that a request can have: no request asks for the refusal NoAddress
 abbrev pub IsWish : Want → Type 0
 IsWish want.Join = ⊤
 IsWish (want.Refuse why) = IsReason why × (why ≡ NoAddress → ⊥)
