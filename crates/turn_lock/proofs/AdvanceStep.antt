@@ -31,7 +31,7 @@ prefix_fits : {X : Type 0} (xs ys : List X) → IsPrefix xs ys → length xs ≤
 prefix_fits xs ys p = omega (arith, length-append xs p.0, ap length p.1)
 
 module _ {V I O : Type 0} (report : V → Report I) (origin : V → O) (passes : ℕ) (opening : V) where
-  -- how many items a value tells
+  -- how many items a value reports
   abbrev size : V → ℕ
   size v = length (report v).items
 

@@ -34,7 +34,7 @@ none_owned (a ∷ own) short = absurd (omega arith)
 
 module _ {V I O : Type 0} (report : V → Report I) (origin : V → O) (passes : ℕ) (opening : V) where
   module _ (s : State (Option V) (View V)) (kept : IsKept report origin passes opening s) (id : ℕ) (v : View V) (at : get_elem? s.views id ≡ home.some v) (all : v.passes ≡ passes) (idle : v.turn ≡ false) where
-    -- nobody has the turn, since a seat that has it stands for a pass
+    -- nobody has the turn, since a seat that has it counts for a pass
     value_home : s.homes ≡ home.some (Some kept.last) ∷ []
     value_home =
         let st = kept.stands in
@@ -111,7 +111,7 @@ module _ {V I O : Type 0} (report : V → Report I) (origin : V → O) (passes :
       (last_among back.seen all (last_or lock.opening back.seen) last.0 seen.0)
       (seen_among lock all returned last.1 seen.1)
 
-  -- what `finish` tells
+  -- what `finish` promises
   pub record Finished (final : V) (all : List (PassView V)) : Type 0 where
     pub follows : MayFollow report origin opening final
     pub seen : All (λ pass. GrowsTo (report pass.seen) (report final)) all

@@ -16,3 +16,4 @@ pub mod Ending
 pub mod Taking
 pub mod Opening
 pub mod Sent
+pub mod PressSent

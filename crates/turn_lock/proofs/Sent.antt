@@ -1,4 +1,7 @@
 -- A pass may go to another thread where its lock's value may, and threads may share its lock. The search for these meets its limits, so callers name `pass_send` and `lock_sync`.
+use base.Fml.{Lft, Share}
+use base.Shift.{Keyless}
+use denote.Bor.{Bor}
 use denote.RattleType.{RattleType}
 use denote.Struct.Declared.{shape}
 use denote.Param.Send.{IsSend, IsSync, sendable, struct_send, recorded_send, view_send, struct_sync, recorded_sync, view_sync}
@@ -35,3 +38,7 @@ pub lock_sync : (V Item Origin : RattleType) (g : Ghosts V.Denot Item.Denot Orig
 lock_sync V Item Origin g s =
     let slot : IsSend (option.the_row V) = option_send V s in
     view_sync _ _ _ _ _ (recorded_sync (whole.the_field V Item Origin g).row _ _ (whole.the_type V Item Origin g).to_one (struct_sync (shape (whole.the_type V Item Origin g)) (search (sendable, shared.the_sync, lease.the_sync, heap.the_sync, heap.the_send, frees) depth 20, (search sendable depth 6, tt))))
+
+-- What a closure that threads share owes of a reference that it captured.
+pub lent_sync : (R : RattleType) → IsSync R → (x : Bor R.Denot) (κ : Lft) → (Share → Unit {0}) × Keyless (R.shr_at x.now x.ref_ptr.0 x.ref_ptr.1 κ)
+lent_sync R s x κ = ((λ q. tt), s.shared x.now x.ref_ptr.0 x.ref_ptr.1 κ)

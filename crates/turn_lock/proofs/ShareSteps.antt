@@ -1,4 +1,4 @@
--- What one seat has seen is told to another, and a seat that stands for no pass comes: these steps keep the rule.
+-- One seat learns what another has seen, and a seat that counts for no pass comes: these steps keep the rule.
 use Rattle.std.proofs.Common.{◌≡◌, ◌≢◌, ℕ, ◌+◌, Bool, true, false, Option, List, [], ◌∷◌, ◌++◌, set, refl, sym, ap, ◌∙◌, subst, ⊎_elim, cond, arith, length-set}
 use Rattle.std.specs.Prelude.{slice_index}
 use mathlib.Core.Option as home
@@ -72,7 +72,7 @@ module _ {V I O : Type 0} (report : V → Report I) (origin : V → O) (passes :
             (at_snoc views w u j there);
       }
 
-  -- what `split_seat` asks of a seat that tells what it has seen
+  -- what `split_seat` asks of a seat that reports what it has seen
   pub tells : (id : ℕ) (v : View V) → Splits {S = Option V} (IsKept report origin passes opening) id v v (listener v.seen)
   tells id v s kept at =
       let w : View V = listener v.seen in
@@ -84,7 +84,7 @@ module _ {V I O : Type 0} (report : V → Report I) (origin : V → O) (passes :
         stands = subst P (sym (set_again s.views id v at)) (stands_beside (slice_index s.words 0) (slice_index s.words 1) (slice_index s.words 2) s.homes s.views kept.before kept.last kept.stands v.seen (kept.stands.fits id v at).seen);
       }
 
-  -- what `join_seat` asks of a seat that is told of what another has seen
+  -- what `join_seat` asks of a seat that learns what another has seen
   pub hears : (id other : ℕ) (v : View V) (seen : List V) → Joins {S = Option V} (IsKept report origin passes opening) id v other (listener seen) (heard v (listener seen)) spent_view
   hears id other v seen s kept at apart there =
       let st = kept.stands in

@@ -60,7 +60,7 @@ module _ {V I O : Type 0} (report : V → Report I) (origin : V → O) where
       let all : Each P zs = subst (Each P) (sym end.1) (each_to_last report origin end.0 z (subst (IsGrowing report origin) end.1 g)) in
       (Each-back P last.0 (x ∷ []) (subst (Each P) last.1 (Each-prefix P xs zs p all))).0
 
-  -- what is known of two seats once the first was told of what the second has seen, and told the second
+  -- what is known of two seats once the first has learnt what the second has seen, and the second has learnt it from the first
   pub record HaveShared (opening : V) (v w : View V) : Type 0 where
     pub last : IsLast (heard v w).seen (last_or opening (heard v w).seen)
     pub origin_is : origin (last_or opening (heard v w).seen) ≡ origin opening

@@ -1,4 +1,4 @@
--- What a list of numbers tells, and what adding a number makes of it.
+-- What a list of numbers reports, and what adding a number makes of it.
 use Rattle.std.specs.Prelude.{◌≡◌, ℕ, ◌+◌, ◌-◌, ◌^◌, List, [], ◌∷◌, ◌++◌, Option, MatchOption, length, max, min}
 use Rattle.turn_lock.specs.declared.numbers.Numbers.{Numbers}
 use Rattle.turn_lock.specs.Report.{Report, GrowsTo}

@@ -1,4 +1,4 @@
--- What a value tells, and how two values of one lock may follow one another.
+-- What a value reports, and how two values of one lock may follow one another.
 use Rattle.std.specs.Prelude.{◌≡◌, ℕ, ◌≤◌, List, [], ◌∷◌}
 use mathlib.Core.List.{IsPrefix}
 

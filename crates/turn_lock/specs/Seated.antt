@@ -55,7 +55,7 @@ module _ {V : Type 0} where
   abbrev pub passes_back : LockView V → View V → List (PassView V)
   passes_back lock v = map (returned_pass lock) v.returned
 
-  -- the seat stands for the passes that were handed in, and owns what they own
+  -- the seat counts for the passes that were handed in, and owns what they own
   pub record IsClosing (lock : LockView V) (me : Me (Option V) (View V)) : Type 0 where
     pub own : me.0.own ≡ own_over (passes_back lock me.0)
     pub passes : me.0.passes ≡ length me.0.returned

@@ -9,7 +9,7 @@ use Rattle.turn_lock.specs.Report.{Report, Each, MayFollow, IsGrowing}
 abbrev pub addition : {V : Type 0} → ℕ → V → V → Addition V
 addition report found left = record { report = report; found = found; left = left }
 
--- so many numbers from one on
+-- the `n` numbers from `from` on
 abbrev pub run : ℕ → ℕ → List ℕ
 run from zero = []
 run from (suc n) = from ∷ run (from + 1) n
@@ -29,7 +29,7 @@ last_or opening [] = opening
 last_or opening (v ∷ vs) = last_or v vs
 
 module _ {V : Type 0} where
-  -- the one seat of a new table, which stands for all passes
+  -- the one seat of a new table, which counts for all passes
   abbrev pub first_view : ℕ → V → View V
   first_view passes opening = record { seen = opening ∷ []; also = []; own = []; tickets = []; turn = false; turns = 0; passes = passes; returned = [] }
 
@@ -52,7 +52,7 @@ module _ {V : Type 0} where
   abbrev pub one_pass : View V → View V
   one_pass v = record { seen = v.seen; also = []; own = []; tickets = []; turn = false; turns = 0; passes = 1; returned = [] }
 
-  -- a seat that stands for no pass and owns nothing: it only knows these values
+  -- a seat that counts for no pass and owns nothing: it only knows these values
   abbrev pub listener : List V → View V
   listener seen = record { seen = seen; also = []; own = []; tickets = []; turn = false; turns = 0; passes = 0; returned = [] }
 
@@ -65,7 +65,7 @@ module _ {V : Type 0} where
   abbrev pub longer : List V → List V → List V
   longer xs ys = if nat_le (length xs) (length ys) then ys else xs
 
-  -- a seat that was told of the values that another had seen. One that has the turn has seen all itself
+  -- a seat that has learnt the values that another had seen. One that has the turn has seen all itself
   abbrev pub heard : View V → View V → View V
   heard v w = record { seen = if v.turn then v.seen else longer v.seen w.seen; also = v.seen ∷ w.seen ∷ []; own = v.own; tickets = v.tickets; turn = v.turn; turns = v.turns; passes = v.passes; returned = v.returned }
 
@@ -73,19 +73,19 @@ module _ {V : Type 0} where
   abbrev pub both_views : View V → View V → View V
   both_views v w = record { seen = longer v.seen w.seen; also = []; own = w.own ++ v.own; tickets = []; turn = false; turns = v.turns + w.turns; passes = v.passes + w.passes; returned = record { seen = w.seen; own = w.own } ∷ v.returned }
 
-  -- What drawing a ticket tells: the number is the caller's ticket
+  -- What a seat learns by drawing a ticket: the number is the caller's ticket
   abbrev pub Draws : Step (Option V) → Me (Option V) (View V) → ℕ → Me (Option V) (View V) → Type 0
   Draws at before number after = after ≡ (with_ticket before.0 number, before.1)
 
-  -- What a step tells that changes no view
+  -- What a seat learns by a step that changes no view
   abbrev pub Stays : Step (Option V) → Me (Option V) (View V) → ℕ → Me (Option V) (View V) → Type 0
   Stays at before number after = after ≡ before
 
-  -- What leaving tells: the value is back in its slot
+  -- What a seat learns by leaving: the value is back in its slot
   abbrev pub Leaves : Step (Option V) → Me (Option V) (View V) → ℕ → Me (Option V) (View V) → Type 0
   Leaves at before number after = after ≡ (without_ticket before.0, [])
 
-  -- What a new seat knows, which stands for no pass
+  -- What a new seat knows, which counts for no pass
   abbrev pub Comes : Step (Option V) → Me (Option V) (View V) → ℕ → Me (Option V) (View V) → Type 0
   Comes at before number after = after ≡ (spent_view, [])
 
@@ -97,13 +97,13 @@ module _ {V : Type 0} where
       pub after_is : after ≡ (at_turn before.0 (earlier ++ value ∷ []), (0, Some value) ∷ [])
       pub follows : All (λ v. MayFollow report origin v value) before.0.seen
 
-    -- What a look tells: the caller has the turn where the turn is its ticket, and else all is as before
+    -- What a seat learns by a look: the caller has the turn where the turn is its ticket, and else all is as before
     abbrev pub Looks : Step (Option V) → Me (Option V) (View V) → ℕ → Me (Option V) (View V) → Type 0
     Looks at before found after =
         (before.0.tickets ≡ found ∷ [] → Took before after)
         × (before.0.tickets ≢ found ∷ [] → after ≡ before)
 
-    -- What advancing tells, where the seat holds `value` and the last that it saw is `found`: the report's number is new, and the report and the places that it added are the caller's
+    -- What a seat learns by advancing, where the seat holds `value` and the last that it saw is `found`: the report's number is new, and the report and the places that it added are the caller's
     abbrev pub Reported : Step (Option V) → Me (Option V) (View V) → ℕ → Me (Option V) (View V) → Type 0
     Reported at before number after = (earlier : List V) (found value : V) → before.0.seen ≡ earlier ++ found ∷ [] → before.1 ≡ (0, Some value) ∷ []
         → (after ≡ (with_value before.0 value (addition number found value), before.1)) × (1 ≤ number) × All (λ n. n < number) (numbers_of before.0.own)
@@ -116,6 +116,6 @@ module _ {V : Type 0} where
       pub also : Each (λ (seen : List V). IsPrefix seen all) v.also
       pub whole : v.turn ≡ true → v.seen ≡ all
 
-    -- What recalling tells
+    -- What a seat learns by recalling
     abbrev pub Recalls : Step (Option V) → Me (Option V) (View V) → ℕ → Me (Option V) (View V) → Type 0
     Recalls at before number after = (after ≡ before) × IsOne before.0

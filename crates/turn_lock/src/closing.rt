@@ -73,7 +73,7 @@ impl<V: Reports> Closing<V> {
     }
 }
 
-/// A seat that stands for no pass.
+/// A seat that counts for no pass.
 pub(crate) fn new_seat<V: Reports>(words: &Words<V>) -> Seat<V>
     requires laid { IsLaid words.now.table_id words.now.key.passes }
     ensures table { result.table_id ≡ words.now.table_id }

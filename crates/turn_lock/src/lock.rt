@@ -71,7 +71,7 @@ impl<V: Reports> TurnLock<V> {
         Held { lock: self, value }
     }
 
-    /// Tells each of two passes what the other has seen: both then have seen the later value last. Nothing else changes, and
+    /// Reports to each of two passes what the other has seen: both then have seen the later value last. Nothing else changes, and
     /// neither does what a pass has seen that has the turn.
     pub fn share(&self, one: &mut Pass<V>, other: &mut Pass<V>)
         requires lock { (one.old.lock ≡ self.now) × (other.old.lock ≡ self.now) }

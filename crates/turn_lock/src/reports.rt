@@ -1,7 +1,7 @@
-//! What a value under the lock tells of itself.
+//! What a value under the lock reports of itself.
 ghost use Rattle.turn_lock.specs.Report.{Report};
 
-/// A value that tells a list and two numbers, which only grow from holding to holding, and an origin, which stays.
+/// A value that reports a list and two numbers, which only grow from holding to holding, and an origin, which stays the same.
 pub trait Reports: Drop {
     type Item;
 

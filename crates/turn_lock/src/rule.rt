@@ -19,7 +19,7 @@ pub struct Returned<V> {
 }
 
 /// What a seat knows: the values that it has seen, the lists that it compared last, what it owns, its ticket, whether it has the
-/// turn, how many turns it asked for, how many passes it stands for, and the passes that were handed in. No value of it is made.
+/// turn, how many turns it asked for, how many passes it counts for, and the passes that were handed in. No value of it is made.
 pub struct View<V> {
     pub seen: LinkedList<V>,
     pub also: LinkedList<LinkedList<V>>,
@@ -104,7 +104,7 @@ impl<V: Reports> Play<Option<V>, View<V>> for Recall {
     ghost then = { Recalls V.report V.origin };
 }
 
-/// A seat that stands for no pass.
+/// A seat that counts for no pass.
 pub struct Come;
 
 impl<V> Play<Option<V>, View<V>> for Come {
@@ -135,7 +135,7 @@ impl<V> Split<View<V>> for Tell {
     ghost right = { listens };
 }
 
-/// A seat that was told of what another had seen.
+/// A seat that learns what another has seen.
 pub struct Hear;
 
 impl<V> Join<View<V>> for Hear {

@@ -234,7 +234,7 @@ pub(crate) fn end_turn<V: Reports>(words: &Words<V>, seat: &mut Seat<V>, value: 
     wake_next(words, seat, turn.wrapping_add(1), passes);
 }
 
-/// Tells the seat `to` what the seat `from` has seen.
+/// Reports to the seat `to` what the seat `from` has seen.
 fn tell<V: Reports>(words: &Words<V>, from: &mut Seat<V>, to: &mut Seat<V>)
     requires tables { (from.old.table_id ≡ words.now.table_id) × (to.old.table_id ≡ words.now.table_id) }
     requires laid { IsLaid words.now.table_id words.now.key.passes }
@@ -255,7 +255,7 @@ fn recall<V: Reports>(words: &Words<V>, seat: &mut Seat<V>)
     words.load::<Recall>(seat, COUNT);
 }
 
-/// Tells each of two seats what the other has seen.
+/// Reports to each of two seats what the other has seen.
 pub(crate) fn share_seen<V: Reports>(words: &Words<V>, one: &mut Seat<V>, other: &mut Seat<V>)
     requires tables { (one.old.table_id ≡ words.now.table_id) × (other.old.table_id ≡ words.now.table_id) }
     requires laid { IsLaid words.now.table_id words.now.key.passes }

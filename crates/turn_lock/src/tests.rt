@@ -17,7 +17,7 @@ use std::test::Fail;
 use std::thread;
 use std::thread::Threads;
 
-/// Adds so many numbers, from one on, and counts those whose place isn't past the last one's.
+/// Adds `count` numbers, beginning at `from`, and counts those whose place isn't past the last one's.
 fn add_many<R: Wait>(
     rt: &R,
     lock: &TurnLock<Numbers>,
@@ -73,7 +73,7 @@ fn add_in_threads<R: Threads + Wait + Sync>(
     Ok(back)
 }
 
-/// The numbers that so many threads added.
+/// The numbers that `threads` threads added.
 fn fill<R: Threads + Wait + Sync>(
     rt: &R,
     alloc: Global,

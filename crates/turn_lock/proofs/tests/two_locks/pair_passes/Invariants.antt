@@ -3,10 +3,10 @@ use Rattle.turn_lock.specs.declared.numbers.Numbers.{Numbers}
 use Rattle.turn_lock.specs.declared.press.Worker.{Worker}
 use Rattle.turn_lock.specs.Press.{PressView}
 use Rattle.turn_lock.specs.Locks.{PassView}
-use Rattle.turn_lock.proofs.tests.two_locks.work_all.Given as goal
+use Rattle.turn_lock.proofs.tests.two_locks.pair_passes.Given as goal
 
 abbrev pub invariant-loop-pass : goal.invariant-loop-pass
-invariant-loop-pass g l = record {
+invariant-loop-pass l = record {
   desks : All (λ (pass : PassView Numbers). (pass.lock ≡ l.desk) × (pass.has_turn ≡ false)) l.desks.items;
   presses : All (λ (pass : PassView PressView). (pass.lock ≡ l.press) × (pass.has_turn ≡ false)) l.presses.items;
   count : length l.workers.items + length l.presses.items ≡ length l.fn.presses.items;
@@ -16,4 +16,4 @@ invariant-loop-pass g l = record {
 }
 
 abbrev pub decreases-loop-pass : goal.decreases-loop-pass
-decreases-loop-pass g l = length l.presses.items
+decreases-loop-pass l = length l.presses.items
