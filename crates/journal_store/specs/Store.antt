@@ -4,6 +4,8 @@ use Rattle.std.specs.declared.alloc.Global.{Global}
 use Rattle.edge_traits.specs.Disk.{Areas, bytes_of, other_area, Changes, Torn}
 use Rattle.edge_traits.specs.declared.disk.Disk.{Ghosts}
 use Rattle.edge_traits.specs.declared.names.Area.{Area}
+use Rattle.edge_traits.specs.Faults.{Rose}
+use Rattle.edge_traits.specs.Runs.{IsSameDisk}
 use Rattle.journal_text.specs.declared.entry.Entry.{Entry}
 use Rattle.journal_store.specs.declared.fault.StoreFault.{StoreFault}
 use Rattle.journal_store.specs.declared.journal.Journal.{Journal}
@@ -54,6 +56,17 @@ HasOther area old image = (before : Areas) × old before × (bytes_of image (oth
 pub record KeepsOther {D : Type 0} (ghosts : Ghosts D) (area : Area) (old new : D) : Type 0 where
   pub read : IsTrue (ghosts.tells old) → bytes_of (ghosts.seen new) (other_area area) ≡ bytes_of (ghosts.seen old) (other_area area)
   pub left : IsTrue (ghosts.tells old) → (image : Areas) → ghosts.may_leave new image → HasOther area (ghosts.may_leave old) image
+
+-- It is the same journal: its area and its disk are the same, and the other area stays.
+pub record IsSameJournal {D : Type 0} (ghosts : Ghosts D) (old new : Journal D) : Type 0 where
+  pub area : area_of new ≡ area_of old
+  pub disk : IsSameDisk ghosts (disk_of old) (disk_of new)
+  pub other : KeepsOther ghosts (area_of old) (disk_of old) (disk_of new)
+
+-- Where a call fails, the count of faults rose in it. Where it doesn't, no call that it made failed.
+pub record FailsWhere (failed done : Type 0) (before now : ℕ) : Type 0 where
+  pub rose : failed → Rose before now
+  pub kept : done → now ≡ before
 
 -- one of those that a crash might have left before, after a write there that was cut short
 abbrev pub TornFrom : (Areas → Type 0) → Area → ℕ → ℕ → Areas → Type 0

@@ -39,14 +39,13 @@ impl<D: Disk> Journal<D> {
     ghost use Rattle.edge_traits.specs.Disk.{Only, Changes, Overwrites};
     ghost use Rattle.edge_traits.specs.Runs.{IsSameDisk, CrashLeaves, IsUntouched};
     ghost use Rattle.edge_traits.specs.declared.names.Area.TheVariants.{Left};
-    ghost use Rattle.edge_traits.specs.Faults.{Rose};
     ghost use Rattle.journal_text.specs.declared.entry.Entry.{Entry};
     ghost use Rattle.journal_text.specs.Text.{entries_text};
     ghost use Rattle.journal_store.specs.declared.fault.Written.TheVariants as written;
     ghost use Rattle.journal_store.specs.declared.fault.Settled.TheVariants as settled;
     ghost use Rattle.journal_store.specs.Area.{first_header, empty_journal, IsOnTheWay, tail_text, IsBatch, IsLog};
     ghost use Rattle.journal_store.specs.Fault.{HasFault, FormatCause, StartCause};
-    ghost use Rattle.journal_store.specs.Store.{EachIn, disk_of, area_of, end_of, pending_of, reach_of, end_limit, disk_after, KeepsOther, HasEither, Stands, IsPending, IsShut};
+    ghost use Rattle.journal_store.specs.Store.{EachIn, disk_of, area_of, end_of, pending_of, reach_of, end_limit, disk_after, IsSameJournal, FailsWhere, HasEither, Stands, IsPending, IsShut};
 
     /// Makes an empty journal of two empty areas. `AlreadyThere` comes exactly where one isn't empty, and then all stays.
     pub fn format(disk: &mut D) -> Result<(), StoreFault>
@@ -119,13 +118,10 @@ impl<D: Disk> Journal<D> {
         ensures written { IsTrue (D.tells (disk_of self.old)) → result ≡ written.Done
             → (entries : List Entry) → IsBatch entries → batch.now ≡ entries_text entries
             → Changes (area_of self.old) (Overwrites (end_of self.old) (1 ∷ tail_text entries)) (D.seen (disk_of self.old)) (D.seen (disk_of self.new)) }
-        ensures other { KeepsOther D.Disk (area_of self.old) (disk_of self.old) (disk_of self.new) }
-        ensures area { area_of self.new ≡ area_of self.old }
+        ensures same { IsSameJournal D.Disk self.old self.new }
         ensures pending { result ≡ written.Done → pending_of self.new ≡ [] }
         ensures reach { reach_of self.new ≡ reach_of self.old + 5 + length batch.now }
-        ensures cause { result ≡ written.Failed → Rose (D.fault_count (disk_of self.old)) (D.fault_count (disk_of self.new)) }
-        ensures no_fault { result ≡ written.Done → D.fault_count (disk_of self.new) ≡ D.fault_count (disk_of self.old) }
-        ensures same { IsSameDisk D.Disk (disk_of self.old) (disk_of self.new) }
+        ensures fault { FailsWhere (result ≡ written.Failed) (result ≡ written.Done) (D.fault_count (disk_of self.old)) (D.fault_count (disk_of self.new)) }
     {
         self.stage_batch(batch);
         self.write()
@@ -145,13 +141,11 @@ impl<D: Disk> Journal<D> {
         ensures failed { IsTrue (D.tells (disk_of self.old)) → result ≡ settled.Failed
             → (header : List ℕ) (log entries : List Entry) → IsPending D.may_leave header self.old log entries → IsPending D.may_leave header self.new log entries }
         ensures untouched { IsUntouched D.Disk (disk_of self.old) (disk_of self.new) }
-        ensures area { area_of self.new ≡ area_of self.old }
+        ensures same { IsSameJournal D.Disk self.old self.new }
         ensures pending { result ≡ settled.Durable → pending_of self.new ≡ [] }
         ensures kept { (result ≡ settled.Again) ⊎ (result ≡ settled.Failed) → pending_of self.new ≡ pending_of self.old }
         ensures reach { reach_of self.new ≡ reach_of self.old }
-        ensures cause { result ≡ settled.Failed → Rose (D.fault_count (disk_of self.old)) (D.fault_count (disk_of self.new)) }
-        ensures no_fault { result ≢ settled.Failed → D.fault_count (disk_of self.new) ≡ D.fault_count (disk_of self.old) }
-        ensures same { IsSameDisk D.Disk (disk_of self.old) (disk_of self.new) }
+        ensures fault { FailsWhere (result ≡ settled.Failed) (result ≢ settled.Failed) (D.fault_count (disk_of self.old)) (D.fault_count (disk_of self.new)) }
     {
         if self.tail.is_empty() {
             return Settled::Nothing;
@@ -181,14 +175,11 @@ impl<D: Disk> Journal<D> {
             (HasEither (D.may_leave (disk_of self.old)) (area_of self.old) header (end_of self.old) log entries) }
         ensures written { IsTrue (D.tells (disk_of self.old)) → result ≡ written.Done
             → Changes (area_of self.old) (Overwrites (end_of self.old) (1 ∷ pending_of self.old)) (D.seen (disk_of self.old)) (D.seen (disk_of self.new)) }
-        ensures other { KeepsOther D.Disk (area_of self.old) (disk_of self.old) (disk_of self.new) }
-        ensures area { area_of self.new ≡ area_of self.old }
+        ensures same { IsSameJournal D.Disk self.old self.new }
         ensures pending { result ≡ written.Done → pending_of self.new ≡ [] }
         ensures kept { result ≡ written.Failed → pending_of self.new ≡ pending_of self.old }
         ensures reach { reach_of self.new ≡ reach_of self.old }
-        ensures cause { result ≡ written.Failed → Rose (D.fault_count (disk_of self.old)) (D.fault_count (disk_of self.new)) }
-        ensures no_fault { result ≡ written.Done → D.fault_count (disk_of self.new) ≡ D.fault_count (disk_of self.old) }
-        ensures same { IsSameDisk D.Disk (disk_of self.old) (disk_of self.new) }
+        ensures fault { FailsWhere (result ≡ written.Failed) (result ≡ written.Done) (D.fault_count (disk_of self.old)) (D.fault_count (disk_of self.new)) }
     {
         self.write()
     }
@@ -225,14 +216,11 @@ impl<D: Disk> Journal<D> {
             (HasEither (D.may_leave (disk_of self.old)) (area_of self.old) header (end_of self.old) log entries) }
         ensures written { IsTrue (D.tells (disk_of self.old)) → result ≡ written.Done
             → Changes (area_of self.old) (Overwrites (end_of self.old) (1 ∷ pending_of self.old)) (D.seen (disk_of self.old)) (D.seen (disk_of self.new)) }
-        ensures other { KeepsOther D.Disk (area_of self.old) (disk_of self.old) (disk_of self.new) }
-        ensures area { area_of self.new ≡ area_of self.old }
+        ensures same { IsSameJournal D.Disk self.old self.new }
         ensures pending { result ≡ written.Done → pending_of self.new ≡ [] }
         ensures kept { result ≡ written.Failed → pending_of self.new ≡ pending_of self.old }
         ensures reach { reach_of self.new ≡ reach_of self.old }
-        ensures cause { result ≡ written.Failed → Rose (D.fault_count (disk_of self.old)) (D.fault_count (disk_of self.new)) }
-        ensures no_fault { result ≡ written.Done → D.fault_count (disk_of self.new) ≡ D.fault_count (disk_of self.old) }
-        ensures same { IsSameDisk D.Disk (disk_of self.old) (disk_of self.new) }
+        ensures fault { FailsWhere (result ≡ written.Failed) (result ≡ written.Done) (D.fault_count (disk_of self.old)) (D.fault_count (disk_of self.new)) }
     {
         let Ok(()) = put(
             &mut self.disk,

@@ -16,7 +16,7 @@ pub returns-in-Done-clause-ok : goal.returns-in-Done-clause-ok
 returns-in-Done-clause-ok g c told log whole =
     let batch = batch_of c.args.entries.now c.collect_batch.new.batch.items c.requires.some c.collect_batch.ensures.fits c.collect_batch.ensures.text c.collect_batch.ensures.most in
     record {
-      left = c.append.ensures.area ∙ whole.left;
+      left = c.append.ensures.same.area ∙ whole.left;
       stands = c.append.ensures.done told c.in-Done.is first_header log c.args.entries.now whole.stands batch (c.as_slice.ensures.value ∙ c.collect_batch.ensures.text);
     }
 
@@ -34,7 +34,7 @@ returns-in-Failed-clause-err g c told log whole =
       batch = c.args.entries.now;
       parts = refl;
       count = refl;
-      left = c.append.ensures.area ∙ whole.left;
+      left = c.append.ensures.same.area ∙ whole.left;
       pending = c.append.ensures.failed told c.in-Failed.is first_header log c.args.entries.now whole.stands batch (c.as_slice.ensures.value ∙ c.collect_batch.ensures.text);
     })
 

@@ -20,7 +20,7 @@ durable_is_something e = cc
 
 pub again-requires-clause-shut : goal.again-requires-clause-shut
 again-requires-clause-shut g c told =
-    let told' = subst (λ b. IsTrue b) c.settle.ensures.same.tells told in
+    let told' = subst (λ b. IsTrue b) c.settle.ensures.same.disk.tells told in
     let held = c.requires.held told' in
     let some : pending_of c.args.self.now.journal ≢ [] = λ none. again_is_something (sym c.in-Again.is ∙ c.settle.ensures.nothing.1 none) in
     let ends = is_pending g.D.Disk.may_leave c.args.self.now.journal held.0 held.1 held.2 some in
@@ -40,7 +40,7 @@ returns-in-Durable-clause-ok g c told log durable held =
     let some : pending_of c.args.self.now.journal ≢ [] = λ none. durable_is_something (sym c.in-Durable.is ∙ c.settle.ensures.nothing.1 none) in
     let ends = is_pending g.D.Disk.may_leave c.args.self.now.journal log durable held some in
     subst (λ (l : List Entry). HasLog g.D.Disk.may_leave c.settle.new.self l) (sym ends.parts)
-    (record { left = c.settle.ensures.area ∙ ends.left; stands = c.settle.ensures.durable told c.in-Durable.is first_header ends.prefix ends.batch ends.pending })
+    (record { left = c.settle.ensures.same.area ∙ ends.left; stands = c.settle.ensures.durable told c.in-Durable.is first_header ends.prefix ends.batch ends.pending })
 
 pub returns-in-Durable-clause-any_moment : goal.returns-in-Durable-clause-any_moment
 returns-in-Durable-clause-any_moment g c told log durable held =
@@ -48,44 +48,44 @@ returns-in-Durable-clause-any_moment g c told log durable held =
 
 pub returns-in-Done-clause-ok : goal.returns-in-Done-clause-ok
 returns-in-Done-clause-ok g c told log durable held =
-    let told' = subst (λ b. IsTrue b) (sym c.settle.ensures.same.tells) told in
+    let told' = subst (λ b. IsTrue b) (sym c.settle.ensures.same.disk.tells) told in
     let some : pending_of c.args.self.now.journal ≢ [] = λ none. again_is_something (sym c.in-Again.is ∙ c.settle.ensures.nothing.1 none) in
     let ends = is_pending g.D.Disk.may_leave c.args.self.now.journal log durable held some in
     let shut = c.settle.ensures.again told c.in-Again.is first_header ends.prefix ends.batch ends.pending in
     subst (λ (l : List Entry). HasLog g.D.Disk.may_leave c.again.new.self l) (sym ends.parts)
-    (record { left = c.again.ensures.area ∙ c.settle.ensures.area ∙ ends.left; stands = c.again.ensures.done told' c.in-Done.is first_header ends.prefix ends.batch shut })
+    (record { left = c.again.ensures.same.area ∙ c.settle.ensures.same.area ∙ ends.left; stands = c.again.ensures.done told' c.in-Done.is first_header ends.prefix ends.batch shut })
 
 pub returns-in-Done-clause-any_moment : goal.returns-in-Done-clause-any_moment
 returns-in-Done-clause-any_moment g c told log durable held =
-    let told' = subst (λ b. IsTrue b) (sym c.settle.ensures.same.tells) told in
+    let told' = subst (λ b. IsTrue b) (sym c.settle.ensures.same.disk.tells) told in
     let some : pending_of c.args.self.now.journal ≢ [] = λ none. again_is_something (sym c.in-Again.is ∙ c.settle.ensures.nothing.1 none) in
     let ends = is_pending g.D.Disk.may_leave c.args.self.now.journal log durable held some in
     let shut = c.settle.ensures.again told c.in-Again.is first_header ends.prefix ends.batch ends.pending in
     wrote_again g.D.Disk.may_leave g.D.Disk.moment g.D.Disk.left_since c.args.self.now.journal (disk_of c.settle.new.self) (disk_of c.again.new.self) log durable (area_of c.settle.new.self) (end_of c.settle.new.self) held ends
-    (c.settle.ensures.area ∙ ends.left) (c.settle.ensures.untouched.any_moment told) (c.again.ensures.any_moment first_header ends.prefix ends.batch shut told')
+    (c.settle.ensures.same.area ∙ ends.left) (c.settle.ensures.untouched.any_moment told) (c.again.ensures.any_moment first_header ends.prefix ends.batch shut told')
 
 pub returns-in-Failed-again-clause-err : goal.returns-in-Failed-again-clause-err
 returns-in-Failed-again-clause-err g c told log durable held =
-    let told' = subst (λ b. IsTrue b) (sym c.settle.ensures.same.tells) told in
+    let told' = subst (λ b. IsTrue b) (sym c.settle.ensures.same.disk.tells) told in
     let some : pending_of c.args.self.now.journal ≢ [] = λ none. again_is_something (sym c.in-Again.is ∙ c.settle.ensures.nothing.1 none) in
     let ends = is_pending g.D.Disk.may_leave c.args.self.now.journal log durable held some in
     let shut = c.settle.ensures.again told c.in-Again.is first_header ends.prefix ends.batch ends.pending in
-    inr (record { prefix = ends.prefix; batch = ends.batch; parts = ends.parts; count = ends.count; left = c.again.ensures.area ∙ c.settle.ensures.area ∙ ends.left; pending = c.again.ensures.failed told' c.in-Failed-again.is first_header ends.prefix ends.batch shut })
+    inr (record { prefix = ends.prefix; batch = ends.batch; parts = ends.parts; count = ends.count; left = c.again.ensures.same.area ∙ c.settle.ensures.same.area ∙ ends.left; pending = c.again.ensures.failed told' c.in-Failed-again.is first_header ends.prefix ends.batch shut })
 
 pub returns-in-Failed-again-clause-any_moment : goal.returns-in-Failed-again-clause-any_moment
 returns-in-Failed-again-clause-any_moment g c told log durable held =
-    let told' = subst (λ b. IsTrue b) (sym c.settle.ensures.same.tells) told in
+    let told' = subst (λ b. IsTrue b) (sym c.settle.ensures.same.disk.tells) told in
     let some : pending_of c.args.self.now.journal ≢ [] = λ none. again_is_something (sym c.in-Again.is ∙ c.settle.ensures.nothing.1 none) in
     let ends = is_pending g.D.Disk.may_leave c.args.self.now.journal log durable held some in
     let shut = c.settle.ensures.again told c.in-Again.is first_header ends.prefix ends.batch ends.pending in
     wrote_again g.D.Disk.may_leave g.D.Disk.moment g.D.Disk.left_since c.args.self.now.journal (disk_of c.settle.new.self) (disk_of c.again.new.self) log durable (area_of c.settle.new.self) (end_of c.settle.new.self) held ends
-    (c.settle.ensures.area ∙ ends.left) (c.settle.ensures.untouched.any_moment told) (c.again.ensures.any_moment first_header ends.prefix ends.batch shut told')
+    (c.settle.ensures.same.area ∙ ends.left) (c.settle.ensures.untouched.any_moment told) (c.again.ensures.any_moment first_header ends.prefix ends.batch shut told')
 
 pub returns-in-Failed-clause-err : goal.returns-in-Failed-clause-err
 returns-in-Failed-clause-err g c told log durable held =
     let some : pending_of c.args.self.now.journal ≢ [] = λ none. failed_is_something (sym c.in-Failed.is ∙ c.settle.ensures.nothing.1 none) in
     let ends = is_pending g.D.Disk.may_leave c.args.self.now.journal log durable held some in
-    inr (record { prefix = ends.prefix; batch = ends.batch; parts = ends.parts; count = ends.count; left = c.settle.ensures.area ∙ ends.left; pending = c.settle.ensures.failed told c.in-Failed.is first_header ends.prefix ends.batch ends.pending })
+    inr (record { prefix = ends.prefix; batch = ends.batch; parts = ends.parts; count = ends.count; left = c.settle.ensures.same.area ∙ ends.left; pending = c.settle.ensures.failed told c.in-Failed.is first_header ends.prefix ends.batch ends.pending })
 
 pub returns-in-Failed-clause-any_moment : goal.returns-in-Failed-clause-any_moment
 returns-in-Failed-clause-any_moment g c told log durable held =
