@@ -1,7 +1,8 @@
 -- For how many pledges the epochs have room.
-use Rattle.std.proofs.Common.{Bool, true, false, if◌then◌else◌, ◌≡◌, inl, inr, ℕ, zero, suc, ◌+◌, ◌<◌, ◌≤◌, List, [], ◌∷◌, ◌++◌, Option, Some, None, Contains, sym, ap, ◌∙◌, subst, arith}
+use Rattle.std.proofs.Common.{Bool, true, false, if◌then◌else◌, ◌≡◌, inl, inr, ℕ, zero, suc, ◌+◌, ◌<◌, ◌≤◌, List, [], ◌∷◌, ◌++◌, length, Option, Some, None, Contains, sym, ap, ◌∙◌, subst, arith}
 use Rattle.std.specs.List.{insert, sum_by}
 use Rattle.std.specs.Option.{is_some}
+use Rattle.std.proofs.lemmas.List.Edits.{length-insert}
 use Rattle.std.proofs.lemmas.List.Sums.{sum_by-append, sum_by-cons, sum_by-insert}
 use Rattle.edge_traits.specs.declared.names.PledgeId.{PledgeId}
 use Rattle.join_history.proofs.ListLemmas.{option_cases}
@@ -90,3 +91,8 @@ pub unheld_more : (held : Held) (xs ys : List LastGrant) (i : ℕ) (x : LastGran
     → unheld held ys ≤ unheld held xs + 1
 unheld_more held xs ys i x true is = subst (λ (l : List LastGrant). unheld held l ≤ unheld held xs + 1) (sym is) (unheld_insert held xs i x)
 unheld_more held xs ys i x false is = subst (λ (l : List LastGrant). unheld held l ≤ unheld held xs + 1) (sym is) (omega arith)
+
+pub length_more : (xs ys : List LastGrant) (i : ℕ) (x : LastGrant) (b : Bool) → i ≤ length xs → ys ≡ (if b then insert xs i x else xs)
+    → length ys ≤ length xs + 1
+length_more xs ys i x true inside is = let len = ap length is in let more = length-insert xs i x inside in omega (arith, len, more)
+length_more xs ys i x false inside is = let len = ap length is in omega (arith, len)

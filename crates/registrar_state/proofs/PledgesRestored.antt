@@ -19,11 +19,10 @@ use Rattle.registrar_state.specs.LastGrants.{IsBefore, IsLastGrant, AreLastGrant
 use Rattle.registrar_state.specs.Restore.{last_in, RestoresAll}
 use Rattle.registrar_state.specs.Restore.{AreSumNodes}
 use Rattle.registrar_state.proofs.SummaryLemmas.{mapped_from, mapped_in}
-use Rattle.registrar_state.proofs.PledgeSteps.{Known}
 
 -- ---- the last Grants
 
-ascend_in : (xs : List SumNode) → Ascends IsNodeBefore xs → Ascends IsBefore (map last_in xs)
+pub ascend_in : (xs : List SumNode) → Ascends IsNodeBefore xs → Ascends IsBefore (map last_in xs)
 ascend_in [] up = tt
 ascend_in (x ∷ xs) up = (
   All-from_contains (IsBefore (last_in x)) (map last_in xs) (λ y has.
@@ -94,11 +93,8 @@ epochs_restored h nodes old new legal are all none p = elim (restored nodes p ol
 
 -- ---- all of it
 
-pub known_restored : (h : List Entry) (nodes : List SumNode) (grants : List LastGrant) (old new : Held) (first : ℕ) → IsLegal h
+pub known_restored : (h : List Entry) (nodes : List SumNode) (grants : List LastGrant) (old new : Held) → IsLegal h
     → AreSumNodes h nodes → grants ≡ map last_in nodes → RestoresAll old nodes new → ((p : PledgeId) → known_of old p ≡ None)
-    → first ≡ 0 → Known h grants new first
-known_restored h nodes grants old new first legal are is all none start = (
-  subst (AreLastGrants h) (sym is) (last_grants h nodes are),
-  epochs_restored h nodes old new legal are all none,
-  λ k d small. absurd (omega (arith, small, start)),
-)
+    → AreLastGrants h grants × AreEpochs h new
+known_restored h nodes grants old new legal are is all none =
+    (subst (AreLastGrants h) (sym is) (last_grants h nodes are), epochs_restored h nodes old new legal are all none)

@@ -19,13 +19,12 @@ passed_before state (h, stands) =
     let knows = known_of state h stands in
     let passed = knows.passed in let time = knows.time in omega (arith, passed, time)
 
-pub settled : (old new : RegState) (h : List Entry) (epoch : Option ℕ) → StandsFor old h → new.time ≡ old.time → new.settings ≡ old.settings
+pub settled : (old new : RegState) (h : List Entry) → StandsFor old h → new.time ≡ old.time → new.settings ≡ old.settings
     → new.phase ≡ old.phase → new.contexts ≡ old.contexts → Passes old.time old.leases new.leases
-    → MatchOption epoch ⊤ (IsSpreading old.phase)
-    → ((g : List Entry) → IsLegal g → old.time ≡ last_time g → MatchOption epoch ⊤ (IsSpreading (phase g)) → KnowPledges g old.pledges → KnowPledges g new.pledges)
+    → new.pledges ≡ old.pledges
     → StandsFor new h
 unfolding StandsFor
-settled old new h epoch stands time settings keys contexts passes spreads know =
+settled old new h stands time settings keys contexts passes pledges =
     let knows = stands.1 in
     let before = knows.passed in
     let is_time = knows.time in
@@ -36,6 +35,6 @@ settled old new h epoch stands time settings keys contexts passes spreads know =
       rows = subst (λ (x : Table). AreRows h x.rows) (sym contexts) knows.rows;
       leases = leases_passed h old.time old.leases new.leases (omega (arith, before, is_time)) passes knows.leases;
       passed = let now = passes.passed in omega (arith, now, is_time);
-      pledges = know h stands.0 knows.time (subst (λ (x : Phase). MatchOption epoch ⊤ (IsSpreading x)) knows.keys spreads) knows.pledges;
+      pledges = subst (KnowPledges h) (sym pledges) knows.pledges;
     } in
     (stands.0, next)

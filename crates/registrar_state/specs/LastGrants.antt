@@ -1,18 +1,18 @@
--- The last Grant of each pledge of a history, who has which epoch, and which pledges wait for no keys.
+-- The last Grant of each pledge of a history, who has which epoch, and which pledges are owed keys.
 use Rattle.std.specs.Prelude.{◌≡◌, ◌≢◌, ◌⊎◌, ℕ, ◌<◌, ◌≤◌, List, Option, Some, None, Contains, Any, length, get_or, sum_by}
-use Rattle.std.specs.Int.{w64, from_be_bytes}
+use Rattle.std.specs.Int.{w64, from_be_bytes, to_be_bytes}
 use Rattle.edge_traits.specs.declared.names.PledgeId.{PledgeId}
 use Rattle.journal_text.specs.declared.summary.SumNode.{SumNode}
 use Rattle.journal_text.specs.declared.entry.Entry.{Entry}
 use Rattle.journal_text.specs.declared.entry.Entry.TheVariants.{Grant}
 use Rattle.join_history.specs.Last.{IsLast}
-use Rattle.join_history.specs.Times.{last_time}
 use Rattle.join_history.specs.Leases.{IsGrantTo}
 use Rattle.join_history.specs.Epochs.{Has, IsStaleFor}
-use Rattle.join_history.specs.Updates.{Waits}
+use Rattle.join_history.specs.Phases.{phase, IsSpreading}
 use Rattle.join_history.specs.Summary.{Ascends, IsGreatest, IsNodeLease}
 use Rattle.rekey_core.specs.declared.epochs.Epochs.{Epochs}
 use Rattle.rekey_core.specs.Held.{Held, known_of, epochs_of}
+use Rattle.rekey_core.specs.declared.waiter.Waiter.{Waiter}
 use Rattle.registrar_state.specs.declared.pledges.LastGrant.{LastGrant}
 
 -- the number of an identifier
@@ -76,14 +76,25 @@ pub record AreLastGrants (h : List Entry) (grants : List LastGrant) : Type 0 whe
 abbrev pub AreEpochs : List Entry → Held → Type 0
 AreEpochs h held = (p : PledgeId) → IsGreatest (Has h p) (epochs_of held p).has × IsGreatest (IsStaleFor h p) (epochs_of held p).stale
 
--- from the last time on the pledge waits for no keys
-abbrev pub NeverWaits : List Entry → PledgeId → Type 0
-NeverWaits h p = (t epoch : ℕ) → last_time h ≤ t → Waits h t p epoch → ⊥
+-- the pledge has neither the keys of the epoch nor is it stale for it
+abbrev pub IsOwed : Held → ℕ → PledgeId → Type 0
+IsOwed held epoch p = ((epochs_of held p).has ≡ epoch → ⊥) × ((epochs_of held p).stale ≡ epoch → ⊥)
 
--- none of the first pledges waits
-abbrev pub NoneWaitsBefore : List Entry → List LastGrant → ℕ → Type 0
-NoneWaitsBefore h grants first =
-    (k : ℕ) (d : LastGrant) → k < first → k < length grants → NeverWaits h (get_or grants k d).id
+-- the pledge in the queue is that of the last Grant, with its end
+pub record IsWaiterOf (x : LastGrant) (w : Waiter) : Type 0 where
+  pub number : w.number ≡ number_of x.id
+  pub until : w.until ≡ x.until
+  pub id : to_be_bytes w64 w.number ≡ x.id.0
+
+-- The queue has the pledges that are owed the keys of the epoch, each with the end of its last Grant. Where the end in the
+-- queue is 0, the pledge waits no more.
+pub record AreWaiting (grants : List LastGrant) (held : Held) (epoch : ℕ) (queue : List Waiter) : Type 0 where
+  pub each : (w : Waiter) → Contains queue w → 0 < w.until → (x : LastGrant) × Contains grants x × IsWaiterOf x w × IsOwed held epoch x.id
+  pub every : (x : LastGrant) → Contains grants x → 0 < x.until → IsOwed held epoch x.id → (w : Waiter) × Contains queue w × IsWaiterOf x w
+
+-- where an epoch is spread, the queue has the pledges that are owed its keys
+abbrev pub AreQueued : List Entry → List LastGrant → Held → List Waiter → Type 0
+AreQueued h grants held queue = (epoch : ℕ) → IsSpreading (phase h) epoch → AreWaiting grants held epoch queue
 
 -- 1 for a pledge whose epochs aren't kept yet
 abbrev pub one_if_none : Option Epochs → ℕ

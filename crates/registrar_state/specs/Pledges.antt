@@ -5,12 +5,16 @@ use Rattle.journal_text.specs.declared.entry.Entry.{Entry}
 use Rattle.journal_text.specs.declared.entry.Entry.TheVariants.{Settings as SettingsEntry, Enroll, Refuse, Block, Switch}
 use Rattle.join_history.specs.Legal.{IsLegal, MayFollow}
 use Rattle.registrar_state.specs.declared.pledges.Pledges.{Pledges}
-use Rattle.registrar_state.specs.LastGrants.{IsNewIn, AreLastGrants, AreEpochs, NoneWaitsBefore}
+use Rattle.registrar_state.specs.LastGrants.{IsNewIn, AreLastGrants, AreEpochs, AreQueued}
 
 -- what is kept of the pledges is what the history says of them
 unfoldable pub KnowPledges : List Entry → Pledges → Type 0
 KnowPledges h pledges = AreLastGrants h pledges.grants.items × AreEpochs h pledges.holders
-    × NoneWaitsBefore h pledges.grants.items pledges.first
+    × AreQueued h pledges.grants.items pledges.holders pledges.queue.waiters
+
+-- the last Grants and the epochs are what the history says of them
+unfoldable pub KnowGrants : List Entry → Pledges → Type 0
+KnowGrants h pledges = AreLastGrants h pledges.grants.items × AreEpochs h pledges.holders
 
 -- how many more pledges fit
 unfoldable pub room_of : Pledges → ℕ

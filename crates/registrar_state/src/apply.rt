@@ -1,5 +1,5 @@
 //! Adding an entry.
-ghost use Rattle.std.specs.Prelude.{◌≡◌, ◌<◌, ◌≤◌, ◌++◌, ◌∷◌, [], ⊤, ℕ, List, Some, MatchOption};
+ghost use Rattle.std.specs.Prelude.{◌≡◌, ◌<◌, ◌≤◌, ◌++◌, ◌∷◌, [], ℕ, List, Some};
 ghost use Rattle.edge_traits.specs.declared.names.PledgeId.{PledgeId as Id};
 ghost use Rattle.journal_text.specs.declared.entry.Entry.{Entry as AnEntry};
 ghost use Rattle.journal_text.specs.declared.entry.Entry.TheVariants as entry;
@@ -7,7 +7,7 @@ ghost use Rattle.join_history.specs.Contexts.{pledge_of};
 ghost use Rattle.registrar_state.specs.Room.{HasRoomFor, TakesRoom, TakesContext, TakesEntry};
 ghost use Rattle.journal_text.specs.declared.settings.Settings.{Settings as ASettings};
 ghost use Rattle.join_history.specs.Leases.{current_settings};
-ghost use Rattle.join_history.specs.Phases.{phase, IsSpreading};
+ghost use Rattle.join_history.specs.Phases.{phase};
 ghost use Rattle.join_history.specs.Answers as spec;
 ghost use Rattle.registrar_state.specs.State.{StandsFor, spare_room, reserved_of, CanFollow, HasSettings, IsSome};
 
@@ -19,17 +19,7 @@ use crate::state::RegState;
 use arrayvec::ArrayVec;
 use edge_traits::PledgeId;
 use journal_text::{Entry, Refusal, Settings};
-use key_sets::{KeySet, Phase};
-
-/// The epoch that is being handed out.
-pub(crate) fn spread_epoch(phase: &Phase) -> Option<u32>
-    ensures { MatchOption result ⊤ (IsSpreading phase.now) }
-{
-    match phase {
-        Phase::Spreading(_, new) => Some(new.epoch),
-        _ => None,
-    }
-}
+use key_sets::KeySet;
 
 impl RegState {
     /// Adds the entry.
@@ -88,7 +78,7 @@ impl RegState {
         }
     }
 
-    /// Forgets the leases that are over at the last time, and passes the pledges that don't wait.
+    /// Forgets the leases that are over at the last time.
     #[tactic(auto, unfolding(crate::specs::State::spare_room, crate::specs::State::reserved_of))]
     fn settle(&mut self)
         requires { IsSome self.old }
@@ -97,7 +87,6 @@ impl RegState {
         ensures memory { reserved_of self.new ≡ reserved_of self.old }
     {
         self.leases.pass(self.time);
-        self.pledges.settle(spread_epoch(&self.phase), self.time);
     }
 
     /// Adds settings.
@@ -217,7 +206,7 @@ impl RegState {
         ensures memory { reserved_of self.new ≡ reserved_of self.old }
     {
         self.phase = rolled(&self.phase, set);
-        self.pledges.roll();
+        self.pledges.roll(set.epoch);
         self.time = time;
         self.room.entries -= 1;
     }

@@ -161,6 +161,6 @@ impl RegState {
     pub(crate) fn may_switch(&self, time: u64, epoch: u32) -> bool
         ensures { (h : List AnEntry) → StandsFor self.now h → IsTrue result ↔ MayFollow h (Switch time epoch) }
     {
-        self.is_handed_out(time, epoch) && self.pledges.first_waiting(epoch, time).is_none()
+        self.is_handed_out(time, epoch) && self.pledges.first_waiting(time).is_none()
     }
 }

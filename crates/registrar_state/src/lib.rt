@@ -12,6 +12,7 @@ mod keys;
 mod last;
 mod legal;
 mod opening;
+mod owed;
 mod pledges;
 mod reads;
 mod restore;

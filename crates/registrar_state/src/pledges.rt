@@ -4,9 +4,10 @@ ghost use Rattle.std.specs.Int.{w64, from_be_bytes, to_be_bytes};
 ghost use Rattle.join_history.specs.Summary.{Ascends};
 ghost use Rattle.registrar_state.specs.LastGrants.{IsBefore, IsPlaceOf, IsGapFor, unheld};
 
+use crate::owed::fill;
 use edge_traits::{NoMemory, PledgeId};
 use journal_text::SumNode;
-use rekey_core::Holders;
+use rekey_core::{Holders, UpdateQueue};
 use std::alloc::Global;
 
 /// The last Grant of a pledge: its context, and its address and end, both 0 once it was released.
@@ -18,21 +19,22 @@ pub(crate) struct LastGrant {
     pub until: u64,
 }
 
-/// The pledges that had a Grant, in order of identifier, who has which epoch, and from where on a
-/// pledge may wait for the newest keys.
+/// The pledges that had a Grant, in order of identifier, who has which epoch, and who is owed the
+/// keys of the epoch that is spread.
 #[derive(Drop)]
 pub(crate) struct Pledges {
     grants: Vec<LastGrant>,
     holders: Holders,
-    first: usize,
+    queue: UpdateQueue,
     room: u32,
     ghost reserved: { vec_len grants + room ≤ vec_capacity grants },
     ghost held: { unheld holders grants.items + room ≤ holders.room },
+    ghost queued: { length grants.items + room ≤ queue.limit },
 }
 
 impl Pledges {
     ghost use Rattle.registrar_state.specs.declared.pledges.LastGrant.{LastGrant as Last};
-    ghost use Rattle.std.specs.Prelude.{◌↔◌, ⊤, ℕ, get_or, List, [], ◌∷◌, ◌++◌, Some, None, Any, IsTrue, IfOk, MatchOption, map};
+    ghost use Rattle.std.specs.Prelude.{◌↔◌, ℕ, List, [], ◌∷◌, ◌++◌, Some, None, Any, IsTrue, IfOk, MatchOption, map};
     ghost use Rattle.key_sets.specs.declared.set.KeySet.{KeySet};
     ghost use Rattle.key_sets.specs.Keys.{epoch_of};
     ghost use Rattle.edge_traits.specs.declared.names.PledgeId.{PledgeId as Id};
@@ -50,7 +52,7 @@ impl Pledges {
     ghost use Rattle.registrar_state.specs.Restore.{AreSumNodes};
     ghost use Rattle.registrar_state.specs.Restore.{last_in, RestoresAll};
     ghost use Rattle.registrar_state.specs.LastGrants.{IsLastGrant, IsNewIn, Replaces};
-    ghost use Rattle.registrar_state.specs.Pledges.{KnowPledges, KnowsBefore, room_of, limit_of, capacity_of, IsNewPledge};
+    ghost use Rattle.registrar_state.specs.Pledges.{KnowPledges, KnowGrants, KnowsBefore, room_of, limit_of, capacity_of, IsNewPledge};
 
     /// No pledge had a Grant, and there is room for `pledges` of them.
     pub(crate) fn empty(alloc: Global, pledges: u32) -> Result<Pledges, NoMemory>
@@ -65,28 +67,31 @@ impl Pledges {
     fn make(alloc: Global, pledges: u32) -> Result<Pledges, NoMemory>
         ensures none { IfOk result (λ made. made.grants.items ≡ []) }
         ensures unknown { IfOk result (λ made. (p : Id) → known_of made.holders p ≡ None) }
-        ensures first { IfOk result (λ made. made.first ≡ 0) }
+        ensures queue { IfOk result (λ made. made.queue.waiters ≡ []) }
         ensures room { IfOk result (λ made. made.room ≡ pledges) }
     {
+        let queue = UpdateQueue::empty(alloc, pledges)?;
         match Holders::empty(alloc, pledges) {
             Ok(holders) => Ok(Pledges {
                 grants: Vec::with_capacity(alloc, pledges as usize)?,
                 holders,
-                first: 0,
+                queue,
                 room: pledges,
             }),
             Err(_) => Err(NoMemory),
         }
     }
 
-    /// The pledges of the nodes of a summary, with room for pledges up to `pledges` in all.
+    /// The pledges of the nodes of a summary, with room for pledges up to `pledges` in all. None is
+    /// in the queue yet.
     pub(crate) fn of_nodes(
         alloc: Global,
         nodes: &[SumNode],
         pledges: u32,
     ) -> Result<Pledges, NoMemory>
         requires { Ascends IsNodeBefore nodes.now }
-        ensures know { IfOk result (λ made. (h : List Entry) → IsLegal h → AreSumNodes h nodes.now → KnowPledges h made) }
+        ensures know { IfOk result (λ made. (h : List Entry) → IsLegal h → AreSumNodes h nodes.now → KnowGrants h made) }
+        ensures ascend { IfOk result (λ made. Ascends IsBefore made.grants.items) }
         ensures limit { IfOk result (λ made. pledges ≤ limit_of made) }
     {
         if nodes.len() > u32::MAX as usize {
@@ -102,7 +107,6 @@ impl Pledges {
         requires { length nodes.now ≤ self.old.room }
         ensures grants { self.new.grants.items ≡ self.old.grants.items ++ map last_in nodes.now }
         ensures epochs { RestoresAll self.old.holders nodes.now self.new.holders }
-        ensures first { self.new.first ≡ self.old.first }
         ensures limit { limit_of self.new ≡ limit_of self.old }
     {
         let mut rest = nodes;
@@ -116,7 +120,6 @@ impl Pledges {
         requires { 0 < self.old.room }
         ensures grants { self.new.grants.items ≡ self.old.grants.items ++ last_in node.now ∷ [] }
         ensures epochs { Sets node.now.id (record { has = node.now.has; stale = node.now.stale }) self.old.holders self.new.holders }
-        ensures first { self.new.first ≡ self.old.first }
         ensures room { self.new.room + 1 ≡ self.old.room }
         ensures limit { limit_of self.new ≡ limit_of self.old }
     {
@@ -197,58 +200,39 @@ impl Pledges {
         self.lacks(id, epoch, now) && !self.is_stale(id, epoch)
     }
 
-    /// The first place from `first` on whose pledge waits for the keys of the epoch that is spread,
-    /// or how many pledges there are.
-    fn place_waiting(&self, epoch: u32, now: u64) -> usize
-        ensures place { result ≤ length self.now.grants.items }
-        ensures none_before { (h : List Entry) → IsLegal h → KnowPledges h self.now → IsSpreading (phase h) epoch → last_time h ≤ now
-            → (k : ℕ) (d : Last) → k < result → Waits h now (get_or self.now.grants.items k d).id epoch → ⊥ }
-        ensures waits { (h : List Entry) → IsLegal h → KnowPledges h self.now → IsSpreading (phase h) epoch
-            → result < length self.now.grants.items → (d : Last) → Waits h now (get_or self.now.grants.items result d).id epoch }
-    {
-        for place in self.first..self.grants.len() {
-            if self.waits(self.grants[place].id, epoch, now) {
-                return place;
-            }
-        }
-        self.grants.len()
-    }
-
     /// The first pledge, in the order of identifiers, that waits for the keys of the epoch that is
     /// spread.
-    pub(crate) fn first_waiting(&self, epoch: u32, now: u64) -> Option<PledgeId>
-        ensures { (h : List Entry) → IsLegal h → KnowPledges h self.now → IsSpreading (phase h) epoch → last_time h ≤ now
+    pub(crate) fn first_waiting(&self, now: u64) -> Option<PledgeId>
+        ensures { (h : List Entry) (epoch : ℕ) → IsLegal h → KnowPledges h self.now → IsSpreading (phase h) epoch → last_time h ≤ now
             → MatchOption result ((p : Id) → Waits h now p epoch → ⊥) (IsFirstWaiting h now) }
     {
-        let place = self.place_waiting(epoch, now);
-        match self.grants.get(place) {
-            Some(last) => Some(last.id),
+        match self.queue.first_after(now) {
+            Some(number) => Some(PledgeId(number.to_be_bytes())),
             None => None,
         }
     }
 
-    /// A Roll follows: from now on each pledge may wait.
-    pub(crate) fn roll(&mut self)
-        ensures know { (h : List Entry) (time : ℕ) (set : KeySet) → IsLegal h → KnowPledges h self.old
+    /// A Roll of the epoch follows: from now on each pledge may wait. It takes linear time.
+    pub(crate) fn roll(&mut self, epoch: u32)
+        requires { (h : List Entry) × KnowPledges h self.old }
+        ensures know { (h : List Entry) (time : ℕ) (set : KeySet) → KnowsBefore self.old h (entry.Roll time set) → epoch ≡ set.epoch
             → KnowPledges (h ++ entry.Roll time set ∷ []) self.new }
         ensures room { room_of self.new ≡ room_of self.old }
         ensures limit { limit_of self.new ≡ limit_of self.old }
         ensures memory { capacity_of self.new ≡ capacity_of self.old }
     {
-        self.first = 0;
+        fill(&mut self.queue, &self.holders, &self.grants, epoch);
     }
 
-    /// Passes the pledges that don't wait at the last time, so that the next search starts after
-    /// them.
-    pub(crate) fn settle(&mut self, epoch: Option<u32>, now: u64)
-        ensures know { (h : List Entry) → IsLegal h → now ≡ last_time h → MatchOption epoch ⊤ (IsSpreading (phase h))
-            → KnowPledges h self.old → KnowPledges h self.new }
-        ensures room { room_of self.new ≡ room_of self.old }
+    /// Puts those that are owed the keys of the epoch that is spread into the queue.
+    pub(crate) fn spread(&mut self, epoch: Option<u32>)
+        requires { Ascends IsBefore self.old.grants.items }
+        ensures know { (h : List Entry) → MatchOption epoch ((e : ℕ) → IsSpreading (phase h) e → ⊥) (IsSpreading (phase h))
+            → KnowGrants h self.old → KnowPledges h self.new }
         ensures limit { limit_of self.new ≡ limit_of self.old }
-        ensures memory { capacity_of self.new ≡ capacity_of self.old }
     {
         match epoch {
-            Some(epoch) => self.first = self.place_waiting(epoch, now),
+            Some(epoch) => fill(&mut self.queue, &self.holders, &self.grants, epoch),
             None => {},
         }
     }
@@ -264,6 +248,7 @@ impl Pledges {
         ensures memory { capacity_of self.new ≡ capacity_of self.old }
     {
         self.holders.given(id, epoch);
+        self.queue.remove(number_of(id));
     }
 
     /// The pledge is stale for the epoch.
@@ -276,6 +261,7 @@ impl Pledges {
         ensures memory { capacity_of self.new ≡ capacity_of self.old }
     {
         self.holders.stale(id, epoch);
+        self.queue.remove(number_of(id));
     }
 
     /// An address was granted to the pledge, under this context, while this was the newest epoch.
@@ -296,6 +282,7 @@ impl Pledges {
             address,
             until,
         });
+        self.queue.remove(number_of(id));
         if epoch > 0 {
             self.holders.granted(id, epoch);
         }
@@ -310,12 +297,15 @@ impl Pledges {
         ensures memory { capacity_of self.new ≡ capacity_of self.old }
     {
         match self.last_grant(id) {
-            Some(last) => self.put(LastGrant {
-                id,
-                context: last.context,
-                address: 0,
-                until: 0,
-            }),
+            Some(last) => {
+                self.put(LastGrant {
+                    id,
+                    context: last.context,
+                    address: 0,
+                    until: 0,
+                });
+                self.queue.remove(number_of(id));
+            },
             None => {},
         }
     }
@@ -326,7 +316,7 @@ impl Pledges {
         requires room { IsNewIn self.old.grants.items last.id → 0 < self.old.room }
         ensures replaces { Replaces self.old.grants.items self.new.grants.items last }
         ensures holders { self.new.holders ≡ self.old.holders }
-        ensures first { self.new.first ≡ self.old.first }
+        ensures queue { self.new.queue ≡ self.old.queue }
         ensures limit { length self.new.grants.items + self.new.room ≡ length self.old.grants.items + self.old.room }
         ensures memory { vec_capacity self.new.grants ≡ vec_capacity self.old.grants }
     {

@@ -10,13 +10,13 @@ ghost use Rattle.registrar_state.specs.Restore.{IsReadableRequest, AreReadable, 
 ghost use Rattle.registrar_state.specs.State.{StandsFor, spare_room};
 ghost use Rattle.registrar_state.specs.Summary.{lease_of};
 
-use crate::apply::spread_epoch;
 use crate::contexts::{Contexts, LastRequest, Row};
 use crate::last::told_of;
 use crate::pledges::Pledges;
 use crate::room::Room;
 use crate::state::RegState;
 use crate::summary::{copy_of_answer, copy_of_phase, copy_of_settings};
+use crate::updates::spread_epoch;
 use address_leases::Leases;
 use edge_traits::NoMemory;
 use journal_text::{RegSummary, SumContext, SumGrant, SumNode, SumRequest};
@@ -158,7 +158,7 @@ impl RegState {
         let table = contexts_of(alloc, &summary.contexts, contexts)?;
         let leases = leases_of(alloc, summary, entries)?;
         let mut pledges = Pledges::of_nodes(alloc, &summary.nodes, contexts)?;
-        pledges.settle(spread_epoch(&summary.phase), summary.time);
+        pledges.spread(spread_epoch(&summary.phase));
         Ok(RegState {
             time: summary.time,
             settings: copy_of_settings(&summary.settings),

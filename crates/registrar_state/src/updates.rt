@@ -14,7 +14,7 @@ use join_history::Job;
 use key_sets::Phase;
 
 /// The epoch that is being handed out.
-fn spread_epoch(phase: &Phase) -> Option<u32>
+pub(crate) fn spread_epoch(phase: &Phase) -> Option<u32>
     ensures { MatchOption result ((epoch : ℕ) → IsSpreading phase.now epoch → ⊥) (IsSpreading phase.now) }
 {
     match phase {
@@ -66,7 +66,7 @@ impl RegState {
     {
         match spread_epoch(&self.phase) {
             None => None,
-            Some(epoch) => self.pledges.first_waiting(epoch, self.moment(now)),
+            Some(_epoch) => self.pledges.first_waiting(self.moment(now)),
         }
     }
 }

@@ -1,2 +1,4 @@
 pub mod IdLemmas
 pub mod WriteLemmas
+pub mod TreeLemmas
+pub mod QueueLemmas

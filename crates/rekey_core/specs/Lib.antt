@@ -1,2 +1,4 @@
 pub mod Writes
 pub mod Held
+pub mod Maxima
+pub mod Queue

@@ -1,9 +1,12 @@
-//! Three pledges over a roll of the keys, and what a grant does to a stale pledge.
-ghost use Rattle.std.specs.Prelude.{◌+◌, ◌<◌, ◌≤◌, ◌↔◌, IsTrue};
+//! Three pledges over a roll of the keys, what a grant does to a stale pledge, and three pledges in
+//! the queue.
+ghost use Rattle.std.specs.Prelude.{◌+◌, ◌<◌, ◌≤◌, ◌↔◌, IsTrue, IfOk};
 ghost use Rattle.rekey_core.specs.Held.{IsLatest};
 
 use crate::holders::Holders;
-use edge_traits::PledgeId;
+use crate::queue::UpdateQueue;
+use edge_traits::{NoMemory, PledgeId};
+use std::alloc::Global;
 use std::test::Fail;
 
 fn pledge(last: u8) -> PledgeId {
@@ -71,5 +74,34 @@ fn two_of_three_are_ready_and_the_third_once_it_is_stale(rt: HostRuntime) -> Res
     assert_eq!(rt; holders.epochs(a3), (2, 0));
     assert_eq!(rt; holders.epochs(pledge(0xa4)), (0, 0));
     assert_eq!(rt; answers(&holders, a3, 3), Some((false, false, false)));
+    Ok(())
+}
+
+/// A queue of three pledges, of which the second has the longest lease.
+fn three_waiters(alloc: Global) -> Result<UpdateQueue, NoMemory>
+    ensures { IfOk result (λ q. 3 ≤ q.limit) }
+{
+    let mut queue = UpdateQueue::empty(alloc, 3)?;
+    queue.push(3, 50);
+    queue.push(5, 200);
+    queue.push(9, 100);
+    Ok(queue)
+}
+
+#[test]
+fn the_first_whose_lease_goes_on_is_found(rt: HostRuntime) -> Result<(), Fail> {
+    let mut queue = three_waiters(rt.alloc())?;
+    assert_eq!(rt; queue.first_after(49), Some(3));
+    assert_eq!(rt; queue.first_after(50), Some(5));
+    assert_eq!(rt; queue.first_after(200), None);
+    queue.remove(5);
+    queue.remove(6);
+    assert_eq!(rt; queue.first_after(49), Some(3));
+    assert_eq!(rt; queue.first_after(50), Some(9));
+    assert_eq!(rt; queue.first_after(100), None);
+    queue.clear();
+    assert_eq!(rt; queue.first_after(0), None);
+    queue.push(1, 7);
+    assert_eq!(rt; queue.first_after(6), Some(1));
     Ok(())
 }

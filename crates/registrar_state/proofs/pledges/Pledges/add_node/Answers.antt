@@ -12,6 +12,10 @@ invariant_of-self c =
     let old = c.args.self.now in
     let x = last_in c.args.node.now in record {
       reserved = omega (arith, c.push_reserved.ensures.len, c.push_reserved.ensures.capacity, old.reserved, c.requires);
+      queued =
+          let len = ap length c.push_reserved.ensures.items in
+          let more = length-append old.grants.items (x ∷ []) in
+          let fits = old.queued in omega (arith, len, more, fits, c.requires);
       held = subst (λ (l : List LastGrant). unheld c.restore.new.self l + (old.room - 1) ≤ c.restore.new.self.room) (sym c.push_reserved.ensures.items)
           (unheld_push old.holders c.restore.new.self _ old.grants.items x (old.room - 1) c.restore.ensures
           (let fits = old.held in omega (arith, fits, c.requires)));

@@ -9,7 +9,6 @@ invariant-loop-rest l = record {
   room : length l.rest ≤ l.self.room;
   grants : l.self.grants.items ++ map last_in l.rest ≡ l.initial.self.grants.items ++ map last_in l.nodes;
   epochs : (new : Held) → RestoresAll l.self.holders l.rest new → RestoresAll l.initial.self.holders l.nodes new;
-  first : l.self.first ≡ l.initial.self.first;
   limit : limit_of l.self ≡ limit_of l.initial.self;
 }
 

@@ -1,4 +1,4 @@
-use Rattle.std.proofs.Common.{◌≡◌, None, refl, subst, sym}
+use Rattle.std.proofs.Common.{arith, ◌≡◌, None, refl, subst, sym}
 use Rattle.rekey_core.specs.Held.{known_of}
 use Rattle.registrar_state.specs.Pledges.{KnowPledges, room_of, limit_of, capacity_of}
 use Rattle.registrar_state.proofs.PledgeRoom.{has_room, room_kept}
@@ -28,13 +28,15 @@ invariant_of-self c =
       reserved = c.args.self.now.reserved;
       held = room_kept c.args.self.now.holders c.stale.new.self c.args.id _ c.args.self.now.grants.items x.0 c.args.self.now.room
           c.stale.ensures.sets x.1 x.2 c.args.self.now.held;
+      queued = let fits = c.args.self.now.queued in let limit = c.remove.ensures.limit in omega (arith, fits, limit);
     }
 
 pub returns-clause-know : goal.returns-clause-know
 unfolding KnowPledges
 returns-clause-know c = λ h time before.
     known_stale h time c.args.epoch c.args.id c.args.self.now.grants.items c.args.self.now.holders c.stale.new.self
-    c.args.self.now.first before.legal before.may_follow c.stale.ensures.sets before.know
+    c.args.self.now.queue.waiters c.remove.new.self.waiters before.legal before.may_follow c.stale.ensures.sets
+    c.number_of.result c.number_of.ensures.number c.number_of.ensures.id c.remove.ensures.ends before.know
 
 pub returns-clause-room : goal.returns-clause-room
 unfolding room_of

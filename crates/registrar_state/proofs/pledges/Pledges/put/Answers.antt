@@ -3,7 +3,7 @@ use Rattle.std.specs.Result.{is_ok}
 use Rattle.join_history.specs.Summary.{Ascends}
 use Rattle.registrar_state.specs.declared.pledges.LastGrant.{LastGrant}
 use Rattle.registrar_state.specs.LastGrants.{IsBefore, IsPlaceOf, IsGapFor, Replaces}
-use Rattle.registrar_state.proofs.PledgeRoom.{one_more, unheld_more}
+use Rattle.registrar_state.proofs.PledgeRoom.{one_more, unheld_more, length_more}
 use Rattle.registrar_state.proofs.PledgeOrder.{replaces_set, replaces_insert, not_in_gap}
 use Rattle.registrar_state.proofs.pledges.Pledges.put.Goals as goal
 
@@ -23,6 +23,9 @@ invariant_of-self-in-Err c =
         c.args.self.now.held,
         room,
       );
+      queued =
+          let more = length_more c.args.self.now.grants.items c.insert.new.self.items c.in-Err.place c.args.last added gap.in_range c.insert.ensures.items in
+          let fits = c.args.self.now.queued in omega (arith, more, fits, room);
     }
 
 pub returns-in-Ok-clause-replaces : goal.returns-in-Ok-clause-replaces

@@ -1,6 +1,7 @@
 use Rattle.std.proofs.Common.{◌++◌, ◌∷◌, [], refl, subst, sym, ℕ}
 use Rattle.journal_text.specs.declared.entry.Entry.TheVariants.{Release}
 use Rattle.rekey_core.specs.Held.{Held}
+use Rattle.rekey_core.specs.Queue.{Queued, Ends}
 use Rattle.registrar_state.specs.Pledges.{KnowPledges, limit_of, capacity_of}
 use Rattle.registrar_state.proofs.PledgeSteps.{Known, known_release, released_is_granted}
 use Rattle.registrar_state.proofs.pledges.Pledges.release.Goals as goal
@@ -22,10 +23,11 @@ returns-in-Some-clause-know c = λ h time before.
     let old = c.args.self.now in
     let new = c.put.new.self in
     let longer = h ++ Release time c.args.id ∷ [] in
-    let known = known_release h time c.args.id c.in-Some.last _ old.grants.items new.grants.items old.holders old.first
-    before.legal before.may_follow (c.in-Some.ensures h before.know) refl refl refl refl c.put.ensures.replaces before.know in
-    subst (λ (held : Held). Known longer new.grants.items held new.first) (sym c.put.ensures.holders)
-    (subst (λ (first : ℕ). Known longer new.grants.items old.holders first) (sym c.put.ensures.first) known)
+    let ends = subst (λ (q : Queued). Ends c.number_of.result q.waiters c.remove.new.self.waiters) c.put.ensures.queue c.remove.ensures.ends in
+    let known = known_release h time c.args.id c.in-Some.last _ old.grants.items new.grants.items old.holders old.queue.waiters
+    c.remove.new.self.waiters before.legal before.may_follow (c.in-Some.ensures h before.know) refl refl refl refl c.put.ensures.replaces
+    c.number_of.result c.number_of.ensures.number c.number_of.ensures.id ends before.know in
+    subst (λ (held : Held). Known longer new.grants.items held c.remove.new.self.waiters) (sym c.put.ensures.holders) known
 
 pub returns-in-Some-clause-limit : goal.returns-in-Some-clause-limit
 unfolding limit_of

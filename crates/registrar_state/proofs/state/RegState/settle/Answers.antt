@@ -14,11 +14,6 @@ invariant_of-self-clause-leases_fit c =
     let freed = room_freed (is_kept old.time) old.leases.grants c.pass.new.self.grants old.leases.room c.pass.new.self.room c.pass.ensures.grants c.pass.ensures.room in
     omega (arith, fits, freed)
 
-pub invariant_of-self-clause-pledges_fit : goal.invariant_of-self-clause-pledges_fit
-invariant_of-self-clause-pledges_fit c =
-    let fits = c.args.self.now.pledges_fit in
-    rw c.settle.ensures.limit fits
-
 pub returns-clause-stands : goal.returns-clause-stands
 returns-clause-stands c = λ h stands.
-    settled c.args.self.now _ h c.spread_epoch.result stands refl refl refl refl c.pass.ensures c.spread_epoch.ensures (λ g legal time spreads know. c.settle.ensures.know g legal time spreads know)
+    settled c.args.self.now _ h stands refl refl refl refl c.pass.ensures refl

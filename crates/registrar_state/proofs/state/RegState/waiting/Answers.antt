@@ -17,8 +17,8 @@ returns-in-Some c = λ h stands.
     let known = known_of c.args.self.now h stands in
     let legal = IsLegal-stands c.args.self.now h stands in
     let at = c.moment.ensures h stands in
-    let spread = subst (λ keys. IsSpreading keys c.in-Some.epoch) known.keys c.in-Some.ensures in
+    let spread = subst (λ keys. IsSpreading keys c.in-Some._epoch) known.keys c.in-Some.ensures in
     let later = subst (λ (t : ℕ). last_time h ≤ t) (sym at) (IsTimely-moment h c.args.now legal).not_before in
-    first_of_any h (moment h c.args.now) c.in-Some.epoch c.first_waiting.result spread
-    (subst (λ (t : ℕ). MatchOption c.first_waiting.result ((p : PledgeId) → Waits h t p c.in-Some.epoch → ⊥) (IsFirstWaiting h t)) at
-    (c.first_waiting.ensures h legal known.pledges spread later))
+    first_of_any h (moment h c.args.now) c.in-Some._epoch c.first_waiting.result spread
+    (subst (λ (t : ℕ). MatchOption c.first_waiting.result ((p : PledgeId) → Waits h t p c.in-Some._epoch → ⊥) (IsFirstWaiting h t)) at
+    (c.first_waiting.ensures h c.in-Some._epoch legal known.pledges spread later))

@@ -1,6 +1,6 @@
-use Rattle.std.proofs.Common.{subst, ap, sym}
+use Rattle.std.proofs.Common.{subst}
 use Rattle.rekey_core.specs.declared.epochs.Epochs.{Epochs}
-use Rattle.rekey_core.specs.Held.{Held, Sets}
+use Rattle.rekey_core.specs.Held.{Sets}
 use Rattle.rekey_core.proofs.WriteLemmas.{stands_given}
 use Rattle.rekey_core.proofs.holders.Holders.given.Goals as goal
 

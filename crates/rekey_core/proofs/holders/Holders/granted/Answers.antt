@@ -1,6 +1,3 @@
-use Rattle.std.proofs.Common.{subst, ap, sym}
-use Rattle.rekey_core.specs.declared.epochs.Epochs.{Epochs}
-use Rattle.rekey_core.specs.Held.{Held, Sets}
 use Rattle.rekey_core.proofs.WriteLemmas.{stands_granted}
 use Rattle.rekey_core.proofs.holders.Holders.granted.Goals as goal
 
